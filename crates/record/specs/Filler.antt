@@ -1,0 +1,23 @@
+-- Unused places of a record's arrays hold one fixed filler, so that equal records are equal values.
+use mathlib.Core.List.{List, [], _∷_, _++_}
+use Prim.Native.Nat.{ℕ, _-_}
+use lib.ListN.{length, replicate}
+use Rattle.record.specs.declared.Mode.the-variants.{Trimmed}
+use Rattle.record.specs.declared.Cell.the-variants.{Void}
+use Rattle.record.specs.declared.Slot.{Slot}
+use Rattle.record.specs.declared.Part.{Part}
+use Rattle.record.specs.declared.Hold.{Hold}
+
+abbrev pub noSlot : Slot
+noSlot = record { cell = Void 0 0 0 }
+
+abbrev pub noPart : Part
+noPart = record { length = 0; breadth = 0; void = 0; grain = 0; count = 0; cells = replicate 8 noSlot }
+
+-- a place where no hold is held
+abbrev pub noHold : Hold
+noHold = record { head = record { mode = Trimmed; factor = 0; count = 0 }; parts = replicate 6 noPart }
+
+-- a list in the first of n places
+unfoldable pub padded : {A : Type 0} → ℕ → A → List A → List A
+padded n filler xs = xs ++ replicate (n - length xs) filler
