@@ -1,0 +1,49 @@
+-- Document 01, Readings to check by: the proved set, as one table of what the definitions give and what the paper prints.
+use mathlib.Core.Bool.{Bool}
+use mathlib.Core.List.{List, [], _∷_}
+use Prim.Native.Nat.{ℕ}
+use lib.Dec.{T, eqb}
+use lib.ListN.{replicate}
+use Rattle.whole.specs.Root.{root, rootDigits}
+use Rattle.whole.specs.Lists.{all, sumOf}
+use Rattle.record.specs.declared.Cell.the-variants.{Void}
+use Rattle.record.specs.declared.Part.{Part}
+use Rattle.grain.specs.Depth.{standardDepth, wingDepth, cellDepth, cellArea}
+use Rattle.grain.specs.Section.{mostHeld, keptFrom, base, firstMoment, highMoment, oldTwice, sectionMoment}
+use Rattle.grain.specs.Slack.{slackMoment}
+
+pub record Reading : Type 0 where
+  pub given : ℕ
+  pub printed : ℕ
+
+infix 40 _reads_
+abbrev pub _reads_ : ℕ → ℕ → Reading
+given reads printed = record { given = given; printed = printed }
+
+-- `(part 10000 12000 3000 6000)` of a partly filled hold
+abbrev pub slackPart : Part
+slackPart = record { length = 10000; breadth = 12000; void = 3000; grain = 6000; count = 0; cells = [] }
+
+abbrev pub readings : List Reading
+readings =
+    (wingDepth 4000 600 reads 430)
+    ∷ (wingDepth 4000 0 reads 100)
+    ∷ (wingDepth 4000 160 reads 100)
+    ∷ (wingDepth 4000 161 reads 101)
+    ∷ (wingDepth 8000 600 reads 590)
+    ∷ (wingDepth 8001 600 reads 591)
+    ∷ (wingDepth 5250 600 reads 440)
+    ∷ (wingDepth 499 600 reads 570)
+    ∷ (mostHeld 2000 100 reads 18660)
+    ∷ (base (cellArea (Void 10000 500 5000)) reads 6109)
+    ∷ (sectionMoment (Void 10000 500 5000 ∷ []) reads 14818333334)
+    ∷ (slackMoment slackPart reads 67148640000)
+    ∷ []
+
+-- each figure is the printed one
+abbrev pub right : Reading → Bool
+right r = eqb (r .given) (r .printed)
+
+pub readings-hold : T (all right readings)
+unfolding all standardDepth wingDepth cellDepth cellArea mostHeld rootDigits keptFrom firstMoment sumOf highMoment oldTwice sectionMoment slackMoment
+readings-hold = tt

@@ -1,0 +1,51 @@
+-- Document 01, the sum: parts in thousandths of m⁴, weight moments in kg·m.
+use mathlib.Core.Bool.{Bool, true, cond, not}
+use mathlib.Core.List.{List}
+use Prim.Native.Nat.{ℕ, _+_, _*_}
+use Rattle.whole.specs.Divide.{ceilDiv}
+use Rattle.whole.specs.Lists.{all, sumOf}
+use Rattle.record.specs.declared.Mode.{Mode}
+use Rattle.record.specs.declared.Mode.the-variants.{Trimmed, Voided, Partial}
+use Rattle.record.specs.declared.Part.{Part}
+use Rattle.record.specs.declared.Hold.{Hold}
+use Rattle.record.specs.Limits.{cellsOf, partsOf, holdLimits}
+use Rattle.grain.specs.Section.{sectionMoment, fits}
+use Rattle.grain.specs.Slack.{slackMoment}
+
+-- the section moment of a part, in mm³
+abbrev pub partSection : Mode → Part → ℕ
+partSection Trimmed p = sectionMoment (cellsOf p)
+partSection Voided p = sectionMoment (cellsOf p)
+partSection Partial p = slackMoment p
+
+-- a part: section moment × LENGTH, rounded up to thousandths of m⁴ (10⁹ mm⁴ each)
+unfoldable pub partMoment : Mode → Part → ℕ
+partMoment mode p = ceilDiv (partSection mode p * p .length) 1000000000
+
+-- the percentage of a hold, by its mode
+abbrev pub percentage : Mode → ℕ
+percentage Trimmed = 100
+percentage Voided = 106
+percentage Partial = 112
+
+-- a hold: the sum of its parts × its percentage, rounded up
+unfoldable pub holdMoment : Hold → ℕ
+holdMoment h = ceilDiv (sumOf (partMoment (h .head .mode)) (partsOf h) * percentage (h .head .mode)) 100
+
+-- the weight moment of a hold: 10,000 × that/SF, rounded up
+unfoldable pub weightMoment : Hold → ℕ
+weightMoment h = ceilDiv (10000 * holdMoment h) (h .head .factor)
+
+-- whether the void of a part fits: of the cells only
+abbrev pub partFits : Mode → Part → Bool
+partFits Trimmed p = fits (cellsOf p)
+partFits Voided p = fits (cellsOf p)
+partFits Partial p = true
+
+-- whether every part's void fits; if not: code 21
+unfoldable pub holdFits : Hold → Bool
+holdFits h = all (partFits (h .head .mode)) (partsOf h)
+
+-- the weight moments of all holds together; a place that holds no parts counts 0
+unfoldable pub totalWeight : List Hold → ℕ
+totalWeight hs = sumOf weightMoment hs

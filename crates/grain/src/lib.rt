@@ -1,0 +1,1 @@
+// Heeling moments of shifted grain.

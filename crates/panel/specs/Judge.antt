@@ -1,0 +1,64 @@
+-- Document 01, Judge: codes 30 to 34, and the verdict. Where a stored record is outside its limits, which lines cannot bring
+-- about, the paper leaves the answer free: such a ship or load counts as none (30, 32), such columns as too few (31), and a
+-- hold that is outside its limits or does not fit as too much weight (34).
+use mathlib.Core.Bool.{Bool, true, false, cond, not, _&&_, _||_}
+use mathlib.Core.List.{List, [], _∷_}
+use Prim.Native.Nat.{ℕ, suc}
+use lib.Dec.{leb, ltb}
+use lib.ListN.{length, getD}
+use Rattle.whole.specs.Lists.{all}
+use Rattle.record.specs.declared.Column.{Column}
+use Rattle.record.specs.declared.Hold.{Hold}
+use Rattle.record.specs.Limits.{shipLimits, loadLimits, columnLimits, holdLimits}
+use Rattle.record.specs.Columns.{held, noColumn}
+use Rattle.grain.specs.Sum.{holdFits, totalWeight}
+use Rattle.stability.specs.declared.Basis.{Basis}
+use Rattle.stability.specs.declared.Around.{Around}
+use Rattle.stability.specs.declared.Around.the-variants.{At, Outside}
+use Rattle.stability.specs.declared.Verdict.{Verdict}
+use Rattle.stability.specs.Arms.{columnsAround}
+use Rattle.stability.specs.Verdict.{verdictOf}
+use Rattle.panel.specs.declared.Condition.{Condition}
+use Rattle.panel.specs.Condition.{isHeld}
+
+-- each column within its limits and above the one before
+unfoldable pub inOrder : List Column → Bool
+inOrder [] = true
+inOrder (k ∷ []) = columnLimits k
+inOrder (k ∷ m ∷ ks) = columnLimits k && ltb (k .d) (m .d) && inOrder (m ∷ ks)
+
+-- a place is empty, or its hold is within its limits and fits
+abbrev pub soundPlace : Hold → Bool
+soundPlace h = not (isHeld h) || holdLimits h && holdFits h
+
+-- what judge answers: a refusal with its code, or a verdict
+pub data Judged : Type 0 where
+  refused : ℕ → Judged
+  judged : Verdict → Judged
+
+-- W, the total weight moment
+abbrev pub weight : Condition → ℕ
+weight c = totalWeight (c .holds)
+
+-- what the arms are read from, with the two columns from the i-th on
+abbrev pub basisAt : Condition → ℕ → Basis
+basisAt c i =
+    record {
+      low = getD (held (c .columns)) i noColumn;
+      high = getD (held (c .columns)) (suc i) noColumn;
+      load = c .load;
+      weight = weight c;
+    }
+
+-- with the columns around D found: 34, or the verdict
+abbrev pub judgedAt : Condition → Around → Judged
+judgedAt c Outside = refused 33
+judgedAt c (At i) =
+    cond (all soundPlace (c .holds) && leb (weight c) 1000000000) (judged (verdictOf (c .ship) (basisAt c i))) (refused 34)
+
+unfoldable pub judgedOf : Condition → Judged
+judgedOf c =
+    cond (not (c .shipped && shipLimits (c .ship))) (refused 30)
+    (cond (not (leb 2 (length (held (c .columns))) && inOrder (held (c .columns)))) (refused 31)
+    (cond (not (c .loaded && loadLimits (c .load))) (refused 32)
+    (judgedAt c (columnsAround (c .load .d) (held (c .columns))))))

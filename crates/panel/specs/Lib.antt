@@ -1,0 +1,5 @@
+pub mod Condition
+pub mod Judge
+pub mod Operations
+pub mod Step
+pub mod Within

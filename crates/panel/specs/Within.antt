@@ -1,0 +1,39 @@
+-- Document 01: a condition that is within its limits, and one that is complete.
+use mathlib.Core.Path.{_≡_}
+use mathlib.Core.Bool.{Bool, true, false}
+use mathlib.Core.List.{List, [], _∷_}
+use Prim.Native.Nat.{ℕ, _+_, _≤_, _<_}
+use lib.ListN.{length, getD}
+use Rattle.record.specs.declared.Column.{Column}
+use Rattle.record.specs.declared.Part.{Part}
+use Rattle.record.specs.declared.Hold.{Hold}
+use Rattle.record.specs.Columns.{held}
+use Rattle.record.specs.Filler.{noHold}
+use Rattle.stability.specs.declared.Verdict.{Verdict}
+use Rattle.panel.specs.declared.Condition.{Condition}
+use Rattle.panel.specs.Condition.{empty, isHeld}
+use Rattle.panel.specs.Operations.{shipOperation, loadOperation, columnOperation, holdOperation}
+use Rattle.panel.specs.Judge.{Judged, refused, judged, judgedOf}
+
+-- the columns, sent one after the other, are each taken with 00
+abbrev pub ColumnsTaken : Condition → List Column → Type 0
+ColumnsTaken c [] = Unit {0}
+ColumnsTaken c (k ∷ ks) = (columnOperation c k .code ≡ 0) × ColumnsTaken (columnOperation c k .after) ks
+
+-- Array lengths as the type has them; and each record, the columns in their order, sent to the empty condition, is taken with
+-- 00. (The counts of columns, parts and cells are within that.)
+pub record Within (c : Condition) : Type 0 where
+  pub holdPlaces : length (c .holds) ≡ 16
+  pub columnPlaces : length (c .columns .places) ≡ 20
+  pub columnCount : c .columns .count ≤ 20
+  pub knPlaces : (i : ℕ) → i < c .columns .count → (k : Column) → length (getD (c .columns .places) i k .kn) ≡ 10
+  pub partPlaces : (n : ℕ) → n < 16 → length (getD (c .holds) n noHold .parts) ≡ 6
+  pub cellPlaces : (n : ℕ) → n < 16 → (i : ℕ) → i < 6 → (p : Part) → length (getD (getD (c .holds) n noHold .parts) i p .cells) ≡ 8
+  pub ship : c .shipped ≡ true → shipOperation empty (c .ship) .code ≡ 0
+  pub load : c .loaded ≡ true → loadOperation empty (c .load) .code ≡ 0
+  pub columns : ColumnsTaken empty (held (c .columns))
+  pub holds : (n : ℕ) → n < 16 → isHeld (getD (c .holds) n noHold) ≡ true → holdOperation empty (n + 1) (getD (c .holds) n noHold) .code ≡ 0
+
+-- none of 30 to 34 applies: judge gives a verdict
+abbrev pub Complete : Condition → Type 0
+Complete c = (v : Verdict) × (judgedOf c ≡ judged v)

@@ -1,0 +1,1 @@
+// Replies, written into what is left of a lent buffer.

@@ -1,0 +1,27 @@
+-- Document 01, Arms and verdict: the ten angles, in hundredths of a degree, and their sines, in millionths.
+use mathlib.Core.List.{List, [], _∷_}
+use Prim.Native.Nat.{ℕ, suc, _-_, min}
+use lib.ListN.{getD}
+use Rattle.record.specs.declared.Rule.{Rule}
+use Rattle.record.specs.declared.Rule.the-variants.{New, Old}
+
+abbrev pub angles : List ℕ
+angles = 0 ∷ 500 ∷ 1000 ∷ 1200 ∷ 1500 ∷ 2000 ∷ 2500 ∷ 3000 ∷ 3500 ∷ 4000 ∷ []
+
+abbrev pub sines : List ℕ
+sines = 0 ∷ 87156 ∷ 173648 ∷ 207912 ∷ 258819 ∷ 342020 ∷ 422618 ∷ 500000 ∷ 573576 ∷ 642788 ∷ []
+
+unfoldable pub angle : ℕ → ℕ
+angle k = getD angles k 0
+
+unfoldable pub sine : ℕ → ℕ
+sine k = getD sines k 0
+
+-- the width of the stretch from one of the ten angles to the next
+abbrev pub width : ℕ → ℕ
+width k = angle (suc k) - angle k
+
+-- the heel limit: 1,200; under `new`, EDGE if smaller
+abbrev pub heelLimit : Rule → ℕ
+heelLimit (New edge) = min 1200 edge
+heelLimit (Old edge) = 1200

@@ -1,0 +1,5 @@
+pub mod Angles
+pub mod Arms
+pub mod Area
+pub mod Verdict
+pub mod Exact

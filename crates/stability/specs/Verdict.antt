@@ -1,0 +1,85 @@
+-- Document 01, the verdict: DIFF between the ten angles, UPPER, and codes 40 to 43 in their order.
+use mathlib.Core.Bool.{Bool, true, false, cond, _&&_, _||_}
+use mathlib.Core.List.{List, [], _∷_}
+use Prim.Native.Nat.{ℕ, zero, suc, _+_, _-_, min}
+use lib.Dec.{leb, ltb}
+use lib.ListN.{getD}
+use lib.Signed.{ltZ}
+use lib.IntN.{ℤ, pos}
+use Rattle.whole.specs.Line.{lineAt}
+use Rattle.record.specs.declared.Ship.{Ship}
+use Rattle.stability.specs.declared.Basis.{Basis}
+use Rattle.stability.specs.declared.Judgement.{Judgement}
+use Rattle.stability.specs.declared.Judgement.the-variants.{Passed, ShortOfGm, ShortAtHeel, ShortBeyond, ShortOfArea}
+use Rattle.stability.specs.declared.Verdict.{Verdict}
+use Rattle.stability.specs.Angles.{angle, width, heelLimit}
+use Rattle.stability.specs.Arms.{gm, diffs}
+use Rattle.stability.specs.Area.{area}
+
+-- how many of the k-th angles from the first on, up to the n-th, lie below x
+unfoldable pub anglesBelow : (n x : ℕ) → ℕ
+anglesBelow zero x = 0
+anglesBelow (suc n) x = cond (ltb (angle (suc n)) x) (suc n) (anglesBelow n x)
+
+-- the stretch in which the angle x lies: that which begins at the last of the ten angles below x, or the first stretch
+abbrev pub stretchOf : ℕ → ℕ
+stretchOf x = anglesBelow 8 x
+
+-- DIFF at the angle x: on the straight line of its stretch, rounded down
+unfoldable pub diffAt : List ℤ → ℕ → ℤ
+diffAt ds x =
+    lineAt (width (stretchOf x)) (x - angle (stretchOf x)) (getD ds (stretchOf x) (pos 0)) (getD ds (suc (stretchOf x)) (pos 0))
+
+-- in front of ds, greatest at the place j, stands d: the place of the greatest of all
+abbrev pub greater : ℤ → List ℤ → ℕ → ℕ
+greater d ds j = cond (ltZ d (getD ds j d)) (suc j) 0
+
+-- the least place at which a list is greatest
+unfoldable pub peak : List ℤ → ℕ
+peak [] = 0
+peak (d ∷ ds) = greater d ds (peak ds)
+
+-- UPPER: the least of the ten angles at which DIFF is greatest, or FLOOD if smaller
+abbrev pub upper : ℕ → List ℤ → ℕ
+upper flood ds = min flood (angle (peak ds))
+
+-- a figure below zero
+abbrev pub isBelow : ℤ → Bool
+isBelow z = ltZ z (pos 0)
+
+-- 42 at the k-th of the ten angles: above the heel limit, not above UPPER, and DIFF below zero
+abbrev pub failsAt : (heel upper : ℕ) → List ℤ → ℕ → Bool
+failsAt heel up ds k = ltb heel (angle k) && leb (angle k) up && isBelow (getD ds k (pos 0))
+
+-- at one of the first n of them
+unfoldable pub failsAmong : (heel upper : ℕ) → List ℤ → ℕ → Bool
+failsAmong heel up ds zero = false
+failsAmong heel up ds (suc n) = failsAmong heel up ds n || failsAt heel up ds n
+
+-- 42: at one of the ten angles, or at UPPER itself if that is above the heel limit
+abbrev pub failsBeyond : (heel upper : ℕ) → List ℤ → Bool
+failsBeyond heel up ds = failsAmong heel up ds 10 || ltb heel up && isBelow (diffAt ds up)
+
+-- the first test that fails
+unfoldable pub judgementOf : (heel upper : ℕ) → ℤ → List ℤ → Judgement
+judgementOf heel up g ds =
+    cond (ltZ g (pos 300000)) ShortOfGm
+    (cond (isBelow (diffAt ds heel)) ShortAtHeel
+    (cond (failsBeyond heel up ds) ShortBeyond
+    (cond (ltb (area ds up) 429718347) ShortOfArea Passed)))
+
+-- the code of each judgement
+abbrev pub judgementCode : Judgement → ℕ
+judgementCode Passed = 0
+judgementCode ShortOfGm = 40
+judgementCode ShortAtHeel = 41
+judgementCode ShortBeyond = 42
+judgementCode ShortOfArea = 43
+
+-- the verdict on figures made from GM and the ten DIFFs, with the DIFF at the heel limit
+abbrev pub verdictFrom : (heel upper : ℕ) → ℤ → List ℤ → Verdict
+verdictFrom heel up g ds =
+    record { judgement = judgementOf heel up g ds; gm = g; diff = diffAt ds heel; upper = up; area = area ds up }
+
+unfoldable pub verdictOf : Ship → Basis → Verdict
+verdictOf s b = verdictFrom (heelLimit (s .rule)) (upper (s .flood) (diffs b)) (gm b) (diffs b)

@@ -1,0 +1,78 @@
+-- Document 01, Lines of the panel: bytes, runs and tokens.
+use mathlib.Core.Bool.{Bool, true, false, cond, not, _&&_, _||_}
+use mathlib.Core.List.{List, [], _∷_}
+use Prim.Native.Nat.{ℕ, _+_, _-_, _*_}
+use lib.Dec.{eqb, leb}
+use lib.ListN.{length}
+use Rattle.whole.specs.Lists.{within, all}
+use Rattle.text.specs.declared.Number.{Number}
+use Rattle.text.specs.declared.Number.the-variants.{Is, Bad}
+
+-- a space; an opening and a closing bracket
+abbrev pub space : ℕ
+space = 32
+
+abbrev pub opening : ℕ
+opening = 40
+
+abbrev pub closing : ℕ
+closing = 41
+
+-- a to z; 0 to 9; either, a byte of a run
+abbrev pub isLetter : ℕ → Bool
+isLetter b = within 97 122 b
+
+abbrev pub isDigit : ℕ → Bool
+isDigit b = within 48 57 b
+
+abbrev pub inRun : ℕ → Bool
+inRun b = isLetter b || isDigit b
+
+-- A line is a list of brackets and runs; spaces only part runs.
+pub data Token : Type 0 where
+  opened : Token
+  closed : Token
+  run : List ℕ → Token
+
+abbrev pub startsRun : List ℕ → Bool
+startsRun [] = false
+startsRun (b ∷ s) = inRun b
+
+-- a byte of a run, in front of the tokens behind it: one more byte of the run that follows at once, or a run by itself
+abbrev pub glue : Bool → ℕ → List Token → List Token
+glue false b ts = run (b ∷ []) ∷ ts
+glue true b [] = run (b ∷ []) ∷ []
+glue true b (opened ∷ ts) = run (b ∷ []) ∷ opened ∷ ts
+glue true b (closed ∷ ts) = run (b ∷ []) ∷ closed ∷ ts
+glue true b (run r ∷ ts) = run (b ∷ r) ∷ ts
+
+-- the tokens of a byte and the bytes s behind it, whose own tokens are ts
+abbrev pub tokensWith : ℕ → List ℕ → List Token → List Token
+tokensWith b s ts =
+    cond (inRun b) (glue (startsRun s) b ts) (cond (eqb b opening) (opened ∷ ts) (cond (eqb b closing) (closed ∷ ts) ts))
+
+unfoldable pub tokens : List ℕ → List Token
+tokens [] = []
+tokens (b ∷ s) = tokensWith b s (tokens s)
+
+-- the value of digits, read behind the value v
+unfoldable pub valueFrom : ℕ → List ℕ → ℕ
+valueFrom v [] = v
+valueFrom v (b ∷ s) = valueFrom (10 * v + (b - 48)) s
+
+abbrev pub value : List ℕ → ℕ
+value r = valueFrom 0 r
+
+-- a zero in front of more digits is needless
+abbrev pub needlessZero : List ℕ → Bool
+needlessZero [] = false
+needlessZero (b ∷ []) = false
+needlessZero (b ∷ d ∷ s) = eqb b 48
+
+-- a number: digits only, from 0 to 999,999,999, without needless leading zeros
+abbrev pub isNumber : List ℕ → Bool
+isNumber [] = false
+isNumber (b ∷ s) = all isDigit (b ∷ s) && not (needlessZero (b ∷ s)) && leb (value (b ∷ s)) 999999999
+
+unfoldable pub numberOf : List ℕ → Number
+numberOf r = cond (isNumber r) (Is (value r)) Bad
