@@ -1,0 +1,100 @@
+"""A program's replies byte for byte: against known outputs, and against the reference on generated lines."""
+
+import support
+from support import escaped, run_program, split_lines
+
+
+def check_vectors(results, name, program, need_vectors=False):
+    """A program over each input whose right output is known."""
+    known = support.vectors()
+    if not known:
+        if need_vectors:
+            results.report(f"{name} vectors", f"there are none in {support.VECTORS}")
+        else:
+            print(f"skipped {name} vectors: there are none in {support.VECTORS}", flush=True)
+    for vector, data, right in known:
+        outcome = run_program(program, data)
+        why = None if outcome.output == right else difference(data, right, outcome.output)
+        results.report(f"{name} vector {vector}", why or outcome.fault)
+
+
+def check_lines(results, program, kinds, seeds, count):
+    """Generated lines through the reference and a program."""
+    reference = support.build("reference")
+    for kind in kinds:
+        for seed in seeds:
+            data = support.generated(kind, seed, count)
+            right = run_program(reference, data)
+            outcome = run_program(program, data)
+            why = None
+            if right.fault:
+                why = f"the reference {right.fault}"
+            elif outcome.output != right.output:
+                why = difference(data, right.output, outcome.output) + "\n" + shown_run(program, data, right, outcome)
+            results.report(f"lines {kind} seed {seed} count {count}", why or outcome.fault)
+
+
+def first_difference(lines, wanted, got):
+    """The place of the first line with another reply, or with none; the number of lines if there is none."""
+    place = 0
+    while place < len(lines) and wanted[place:place + 1] == got[place:place + 1]:
+        place += 1
+    return place
+
+
+def difference(data, right, output):
+    """Says in words where two outputs that are not the same differ first."""
+    lines, wanted, got = split_lines(data), split_lines(right), split_lines(output)
+    place = first_difference(lines, wanted, got)
+    if place == len(lines):
+        return f"{len(got)} replies to {len(lines)} lines, or no byte 10 behind the last"
+    return "\n".join([
+        f"line {place + 1}",
+        f"    line:     {escaped(lines[place])}",
+        f"    expected: {shown(wanted, place)}",
+        f"    reply:    {shown(got, place)}",
+    ])
+
+
+def shown(replies, place):
+    return escaped(replies[place]) if place < len(replies) else "none"
+
+
+def shown_run(program, data, right, outcome):
+    """The lines of a short run that still shows the first difference at its end."""
+    lines = split_lines(data)
+    place = first_difference(lines, right.replies(), outcome.replies())
+    if place == len(lines):
+        return ""
+    run = shortest_run(program, lines[:place + 1])
+    return "\n".join(["    a short run that shows it:"] + [f"      {escaped(line, 2_000)}" for line in run])
+
+
+def shortest_run(program, run, tries=400):
+    """Takes lines away as long as the replies to the last line still differ."""
+    reference = support.build("reference")
+
+    def differs(candidate):
+        data = b"".join(line + b"\n" for line in candidate)
+        last = len(candidate) - 1
+        wanted, got = (run_program(tested, data, patience=20).replies() for tested in (reference, program))
+        return wanted[last:] != got[last:]
+
+    # As a rule nothing before the last clear matters.
+    clears = [place for place, line in enumerate(run[:-1]) if line.replace(b" ", b"") == b"(clear)"]
+    if clears and differs(run[clears[-1]:]):
+        run = run[clears[-1]:]
+    size = max(1, len(run) // 2)
+    while tries > 0:
+        place, shorter = 0, False
+        while place < len(run) - 1 and tries > 0:
+            candidate = run[:place] + run[min(place + size, len(run) - 1):]
+            tries -= 1
+            if differs(candidate):
+                run, shorter = candidate, True
+            else:
+                place += size
+        if size == 1 and not shorter:
+            break
+        size = max(1, size // 2)
+    return run

@@ -1,0 +1,179 @@
+"""A program of the panel as a process: how input comes in, how replies go out, how it ends."""
+
+import os
+import select
+import subprocess
+
+from support import escaped, run_program
+
+WORKED_RUN = b"""(ship new 1430 3500)
+(column 20000 9000 (0 870 1740 2080 2600 3450 4300 5100 5850 6500))
+(column 30000 9000 (0 870 1740 2080 2600 3450 4300 5100 5850 6500))
+(load 25000 8000 100)
+(hold 1 trimmed 12500 (part 10000 (void 10000 500 5000)))
+(hold 2 partial 12500 (part 10000 12000 3000 6000))
+(judge)
+"""
+WORKED_REPLIES = b"(answer 00)\n" * 6 + b"(verdict 00 900000 368832 3500 2012606617)\n"
+
+# Seconds after which a process that should have replied or ended is taken to hang.
+PATIENCE = 20
+# Bytes of the longest line sent, and kilobytes of memory that a program may use for it: far less than the line.
+LONG_LINE = 100_000_000
+MOST_MEMORY = 50_000
+
+
+def check_process(results, name, program):
+    for what, data, right in INPUTS:
+        results.report(f"{name} {what}", wrong(run_program(program, data, patience=PATIENCE), right))
+    results.report(f"{name} input in pieces of one byte", in_pieces(program, WORKED_RUN, WORKED_REPLIES, 1))
+    many = (b"(clear)\n" + WORKED_RUN) * 2_000
+    replies = (b"(answer 00)\n" + WORKED_REPLIES) * 2_000
+    results.report(f"{name} input in pieces of 64 KiB", in_pieces(program, many, replies, 65_536))
+    results.report(f"{name} line of {LONG_LINE} bytes", long_line(program))
+    results.report(f"{name} replies before it waits for more", replies_at_once(program))
+    results.report(f"{name} ends when its output is closed", closed_output(program))
+
+
+def check_reference_limits(results, program):
+    """The service's two limits at small numbers, which only the reference takes as arguments."""
+    cases = [
+        (["--max-lines", "0"], b""),
+        (["--max-lines", "1"], b"(answer 00)\n"),
+        (["--max-lines", "2"], b"(answer 00)\n(verdict 30)\n"),
+        (["--max-bytes", "7"], b""),
+        (["--max-bytes", "8"], b"(answer 00)\n"),
+        (["--max-bytes", "15"], b"(answer 00)\n"),
+        (["--max-bytes", "16"], b"(answer 00)\n(verdict 30)\n"),
+        (["--max-bytes", "17"], b"(answer 00)\n(verdict 30)\n"),
+        (["--max-bytes", "18"], b"(answer 00)\n(verdict 30)\n(answer 14)\n"),
+        (["--max-bytes", "18", "--max-lines", "2"], b"(answer 00)\n(verdict 30)\n"),
+    ]
+    for arguments, right in cases:
+        outcome = run_program(program, b"(clear)\n(judge)\n()", arguments, PATIENCE)
+        results.report(f"reference {' '.join(arguments)}", wrong(outcome, right))
+
+
+def wrong(outcome, right):
+    if outcome.fault or outcome.output == right:
+        return outcome.fault
+    return f"{escaped(outcome.output)} instead of {escaped(right)}"
+
+
+def every_byte_value():
+    """Each byte value inside a form; byte 10 ends the line there."""
+    data, right = b"", b""
+    for value in range(256):
+        data += b"(a " + bytes([value]) + b")\n"
+        if value == 10:
+            right += b"(answer 12)\n(answer 12)\n"
+        elif chr(value) in "()":
+            right += b"(answer 12)\n"
+        elif chr(value) in " abcdefghijklmnopqrstuvwxyz0123456789":
+            right += b"(answer 14)\n"
+        else:
+            right += b"(answer 11)\n"
+    return data, right
+
+
+INPUTS = [
+    ("worked run", WORKED_RUN, WORKED_REPLIES),
+    ("worked run without a final byte 10", WORKED_RUN[:-1], WORKED_REPLIES),
+    ("empty input", b"", b""),
+    ("one empty line", b"\n", b"(answer 12)\n"),
+    ("two empty lines", b"\n\n", b"(answer 12)\n(answer 12)\n"),
+    ("a space without byte 10", b" ", b"(answer 12)\n"),
+    ("line of 2,000 bytes", b"(judge)" + b" " * 1_993 + b"\n", b"(verdict 30)\n"),
+    ("line of 2,000 bytes without byte 10", b"(judge)" + b" " * 1_993, b"(verdict 30)\n"),
+    ("line of 2,001 bytes", b"(judge)" + b" " * 1_994 + b"\n(judge)\n", b"(answer 10)\n(verdict 30)\n"),
+    ("line of 2,001 bytes without byte 10", b"(judge)" + b" " * 1_994, b"(answer 10)\n"),
+    ("lines ended by carriage returns", b"(judge)\r\n(judge)\r", b"(answer 11)\n(answer 11)\n"),
+    ("every byte value", *every_byte_value()),
+]
+
+
+def started(program):
+    return subprocess.Popen([str(program)], stdin=subprocess.PIPE, stdout=subprocess.PIPE, bufsize=0)
+
+
+def ended(process):
+    """Waits for the end; says so if it does not come."""
+    try:
+        process.wait(PATIENCE)
+    except subprocess.TimeoutExpired:
+        process.kill()
+        process.wait()
+        return f"did not end within {PATIENCE} s"
+    return None
+
+
+def in_pieces(program, data, right, size):
+    """Writes the input piece by piece and reads whatever replies are there in between."""
+    process = started(program)
+    output = b""
+    for place in range(0, len(data), size):
+        process.stdin.write(data[place:place + size])
+        while select.select([process.stdout], [], [], 0)[0]:
+            output += process.stdout.read(65_536)
+    process.stdin.close()
+    while piece := process.stdout.read(65_536):
+        output += piece
+    process.stdout.close()
+    if output != right:
+        return f"{escaped(output)} instead of {escaped(right)}"
+    return ended(process) or (f"ended with status {process.returncode}" if process.returncode else None)
+
+
+def replies_at_once(program):
+    """Sends line after line, each only when the reply to the one before is there."""
+    process = started(program)
+    why = None
+    for line, right in zip(WORKED_RUN.splitlines(True), WORKED_REPLIES.splitlines(True)):
+        process.stdin.write(line)
+        reply = b""
+        while not reply.endswith(b"\n") and select.select([process.stdout], [], [], PATIENCE)[0]:
+            piece = process.stdout.read(65_536)
+            if not piece:
+                break
+            reply += piece
+        if reply != right:
+            why = f"{escaped(reply)} instead of {escaped(right)}"
+            break
+    process.stdin.close()
+    process.stdout.close()
+    return ended(process) or why
+
+
+def long_line(program):
+    """A line far above 2,000 bytes gets code 10 without being kept whole, and the next line is taken."""
+    process = started(program)
+    piece = b"(judge) " * 12_500
+    for _ in range(LONG_LINE // len(piece)):
+        process.stdin.write(piece)
+    process.stdin.write(b"\n(judge)\n")
+    process.stdin.close()
+    output = process.stdout.read()
+    process.stdout.close()
+    _, status, usage = os.wait4(process.pid, 0)
+    process.returncode = os.waitstatus_to_exitcode(status)
+    if output != b"(answer 10)\n(verdict 30)\n":
+        return f"{escaped(output)} instead of (answer 10), (verdict 30)"
+    if usage.ru_maxrss > MOST_MEMORY:
+        return f"used {usage.ru_maxrss} KB of memory"
+    return f"ended with status {process.returncode}" if process.returncode else None
+
+
+def closed_output(program):
+    """Nobody reads the replies any more: the program must end by itself, whatever its status."""
+    process = subprocess.Popen(
+        [str(program)], stdin=subprocess.PIPE, stdout=subprocess.PIPE, stderr=subprocess.DEVNULL, bufsize=0)
+    process.stdout.close()
+    try:
+        for _ in range(200):
+            process.stdin.write(b"(judge)\n" * 1_000)
+    except BrokenPipeError:
+        pass
+    # The input is still open: it is the lost output that ends the program.
+    why = ended(process)
+    process.stdin.close()
+    return why
