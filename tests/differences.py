@@ -61,39 +61,44 @@ def shown(replies, place):
 
 
 def shown_run(program, data, right, outcome):
-    """The lines of a short run that still shows the first difference at its end."""
+    """The lines of a short run that still shows a difference."""
     lines = split_lines(data)
     place = first_difference(lines, right.replies(), outcome.replies())
-    if place == len(lines):
-        return ""
-    run = shortest_run(program, lines[:place + 1])
+    run = shortest_run(program, lines, place)
     return "\n".join(["    a short run that shows it:"] + [f"      {escaped(line, 2_000)}" for line in run])
 
 
-def shortest_run(program, run, tries=400):
-    """Takes lines away as long as the replies to the last line still differ."""
-    reference = support.build("reference")
+def differs(program, lines):
+    """Whether a program's output for these lines is not the reference's."""
+    data = b"".join(line + b"\n" for line in lines)
+    wanted, got = (run_program(tested, data, patience=20) for tested in (support.build("reference"), program))
+    return wanted.output != got.output
 
-    def differs(candidate):
-        data = b"".join(line + b"\n" for line in candidate)
-        last = len(candidate) - 1
-        wanted, got = (run_program(tested, data, patience=20).replies() for tested in (reference, program))
-        return wanted[last:] != got[last:]
 
+def shortest_run(program, lines, place, tries=400):
+    """Takes lines away as long as the outputs still differ. The first difference was found at this place."""
+    run = lines[:place + 1]
+    if not differs(program, run):
+        # A program that ended too early lost replies before it: the line that ended it comes later.
+        right, wrong = place + 1, len(lines)
+        while wrong - right > 1:
+            middle = (right + wrong) // 2
+            right, wrong = (right, middle) if differs(program, lines[:middle]) else (middle, wrong)
+        run = lines[:wrong]
     # As a rule nothing before the last clear matters.
-    clears = [place for place, line in enumerate(run[:-1]) if line.replace(b" ", b"") == b"(clear)"]
-    if clears and differs(run[clears[-1]:]):
+    clears = [at for at, line in enumerate(run[:-1]) if line.replace(b" ", b"") == b"(clear)"]
+    if clears and differs(program, run[clears[-1]:]):
         run = run[clears[-1]:]
     size = max(1, len(run) // 2)
     while tries > 0:
-        place, shorter = 0, False
-        while place < len(run) - 1 and tries > 0:
-            candidate = run[:place] + run[min(place + size, len(run) - 1):]
+        at, shorter = 0, False
+        while at < len(run) and tries > 0:
+            candidate = run[:at] + run[at + size:]
             tries -= 1
-            if differs(candidate):
+            if candidate and differs(program, candidate):
                 run, shorter = candidate, True
             else:
-                place += size
+                at += size
         if size == 1 and not shorter:
             break
         size = max(1, size // 2)

@@ -1,8 +1,8 @@
 """A program of the panel as a process: how input comes in, how replies go out, how it ends."""
 
 import os
-import select
 import subprocess
+import threading
 
 from support import escaped, run_program
 
@@ -92,88 +92,111 @@ INPUTS = [
 ]
 
 
-def started(program):
-    return subprocess.Popen([str(program)], stdin=subprocess.PIPE, stdout=subprocess.PIPE, bufsize=0)
+class Talk:
+    """A running program. Its replies are read all the time, so that neither side waits for the other for ever, and it
+    is ended if it takes too long."""
 
+    def __init__(self, program):
+        self.process = subprocess.Popen(
+            [str(program)], stdin=subprocess.PIPE, stdout=subprocess.PIPE, stderr=subprocess.DEVNULL, bufsize=0)
+        self.output = bytearray()
+        self.late = False
+        self.changed = threading.Condition()
+        self.reader = threading.Thread(target=self._read)
+        self.reader.start()
+        self.watch = threading.Timer(PATIENCE, self._give_up)
+        self.watch.start()
 
-def ended(process):
-    """Waits for the end; says so if it does not come."""
-    try:
-        process.wait(PATIENCE)
-    except subprocess.TimeoutExpired:
-        process.kill()
-        process.wait()
-        return f"did not end within {PATIENCE} s"
-    return None
+    def _read(self):
+        while piece := self.process.stdout.read(65_536):
+            with self.changed:
+                self.output += piece
+                self.changed.notify()
+
+    def _give_up(self):
+        self.late = True
+        self.process.kill()
+
+    def send(self, data):
+        """Sends bytes; a program that has ended does not take them, and its output will tell."""
+        try:
+            self.process.stdin.write(data)
+        except BrokenPipeError:
+            pass
+
+    def wait_for(self, length):
+        """Waits until the output has so many bytes or time is up."""
+        with self.changed:
+            self.changed.wait_for(lambda: len(self.output) >= length, PATIENCE)
+
+    def finish(self):
+        """Closes the input and waits for the end; answers the process's use of memory in kilobytes."""
+        self.process.stdin.close()
+        self.reader.join()
+        self.process.stdout.close()
+        _, status, usage = os.wait4(self.process.pid, 0)
+        self.process.returncode = os.waitstatus_to_exitcode(status)
+        self.watch.cancel()
+        return usage.ru_maxrss
+
+    def wrong(self, right):
+        """What was wrong with the talk, if anything, when this output is right."""
+        if self.late:
+            return f"did not end within {PATIENCE} s"
+        if self.output != right:
+            return f"{escaped(self.output)} instead of {escaped(right)}"
+        return f"ended with status {self.process.returncode}" if self.process.returncode else None
 
 
 def in_pieces(program, data, right, size):
-    """Writes the input piece by piece and reads whatever replies are there in between."""
-    process = started(program)
-    output = b""
+    talk = Talk(program)
     for place in range(0, len(data), size):
-        process.stdin.write(data[place:place + size])
-        while select.select([process.stdout], [], [], 0)[0]:
-            output += process.stdout.read(65_536)
-    process.stdin.close()
-    while piece := process.stdout.read(65_536):
-        output += piece
-    process.stdout.close()
-    if output != right:
-        return f"{escaped(output)} instead of {escaped(right)}"
-    return ended(process) or (f"ended with status {process.returncode}" if process.returncode else None)
+        talk.send(data[place:place + size])
+    talk.finish()
+    return talk.wrong(right)
 
 
 def replies_at_once(program):
     """Sends line after line, each only when the reply to the one before is there."""
-    process = started(program)
-    why = None
-    for line, right in zip(WORKED_RUN.splitlines(True), WORKED_REPLIES.splitlines(True)):
-        process.stdin.write(line)
-        reply = b""
-        while not reply.endswith(b"\n") and select.select([process.stdout], [], [], PATIENCE)[0]:
-            piece = process.stdout.read(65_536)
-            if not piece:
-                break
-            reply += piece
-        if reply != right:
-            why = f"{escaped(reply)} instead of {escaped(right)}"
-            break
-    process.stdin.close()
-    process.stdout.close()
-    return ended(process) or why
+    talk = Talk(program)
+    expected = b""
+    for line, reply in zip(WORKED_RUN.splitlines(True), WORKED_REPLIES.splitlines(True)):
+        talk.send(line)
+        expected += reply
+        talk.wait_for(len(expected))
+        if talk.output != expected:
+            talk.finish()
+            return f"no reply, or a wrong one, before more input: {escaped(line)}"
+    talk.finish()
+    return talk.wrong(expected)
 
 
 def long_line(program):
     """A line far above 2,000 bytes gets code 10 without being kept whole, and the next line is taken."""
-    process = started(program)
+    talk = Talk(program)
     piece = b"(judge) " * 12_500
     for _ in range(LONG_LINE // len(piece)):
-        process.stdin.write(piece)
-    process.stdin.write(b"\n(judge)\n")
-    process.stdin.close()
-    output = process.stdout.read()
-    process.stdout.close()
-    _, status, usage = os.wait4(process.pid, 0)
-    process.returncode = os.waitstatus_to_exitcode(status)
-    if output != b"(answer 10)\n(verdict 30)\n":
-        return f"{escaped(output)} instead of (answer 10), (verdict 30)"
-    if usage.ru_maxrss > MOST_MEMORY:
-        return f"used {usage.ru_maxrss} KB of memory"
-    return f"ended with status {process.returncode}" if process.returncode else None
+        talk.send(piece)
+    talk.send(b"\n(judge)\n")
+    memory = talk.finish()
+    why = talk.wrong(b"(answer 10)\n(verdict 30)\n")
+    return why or (f"used {memory} KB of memory" if memory > MOST_MEMORY else None)
 
 
 def closed_output(program):
-    """Nobody reads the replies any more: the program must end by itself, whatever its status."""
+    """Nobody reads the replies any more: the program must end by itself, whatever its status, while its input is open."""
     process = subprocess.Popen(
         [str(program)], stdin=subprocess.PIPE, stdout=subprocess.PIPE, stderr=subprocess.DEVNULL, bufsize=0)
     process.stdout.close()
+    watch = threading.Timer(PATIENCE, process.kill)
+    watch.start()
     try:
         for _ in range(200):
             process.stdin.write(b"(judge)\n" * 1_000)
     except BrokenPipeError:
         pass
-    # The input is still open: it is the lost output that ends the program.
-    why = ended(process)
+    process.wait()
     process.stdin.close()
-    return why
+    ended_by_itself = watch.is_alive()
+    watch.cancel()
+    return None if ended_by_itself else f"did not end within {PATIENCE} s"

@@ -354,6 +354,37 @@ mod tests {
     }
 
     #[test]
+    fn diff_0_at_the_heel_limit_is_not_41_and_minus_1_is() {
+        // Fluid KG 1,000 × 0.207912 is 207,912 µm. One tonne above the first of two columns 1,000 t apart, KN is
+        // 1,000 × 207 plus what the second column has more.
+        let (mut low, mut high) = (column(20_000, 9_000), column(21_000, 9_000));
+        let load = Load { d: 20_001, kg: 1_000, fs: 0 };
+        (low.kn[3], high.kn[3]) = (207, 207 + 912);
+        let at_zero = verdict(&SHIP, (&low, &high), &load, 0);
+        assert_eq!((at_zero.diff, at_zero.code), (0, Code::Done));
+        high.kn[3] -= 1;
+        let below = verdict(&SHIP, (&low, &high), &load, 0);
+        assert_eq!((below.diff, below.code), (-1, Code::HeelLimitPassed));
+    }
+
+    #[test]
+    fn area_429718347_is_not_43_and_one_less_is() {
+        let ship = Ship { rule: Rule::New, edge: 3_330, flood: 3_009 };
+        let kn_low = [0, 1_847, 3_631, 4_367, 5_410, 7_111, 8_720, 11_099, 11_753, 14_026];
+        let mut kn_high = [0, 2_796, 3_670, 4_494, 5_917, 7_193, 9_430, 11_638, 12_730, 14_143];
+        let load = Load { d: 2_055, kg: 10_491, fs: 9_999 };
+        let judged = |kn_high| {
+            let low = Column { d: 2_054, km: 21_390, kn: kn_low };
+            let high = Column { d: 3_054, km: 21_390, kn: kn_high };
+            let verdict = verdict(&ship, (&low, &high), &load, 0);
+            (verdict.upper, verdict.area, verdict.code)
+        };
+        assert_eq!(judged(kn_high), (3_009, 429_718_347, Code::Done));
+        kn_high[8] -= 1;
+        assert_eq!(judged(kn_high), (3_009, 429_718_346, Code::ShortOfArea));
+    }
+
+    #[test]
     fn the_first_code_that_applies_is_given() {
         let worse = Load { kg: 8_701, fs: 0, ..LOAD };
         assert_eq!(judged(SHIP, worse, 1_000_000_000).code, Code::LowGm);

@@ -244,6 +244,7 @@ mod tests {
     #[test]
     fn a_lip_above_the_slope_holds_a_trapezium() {
         assert_eq!(most_held(20_000, 5_359), 53_590_000, "both formulas at the border");
+        assert_eq!(most_held(20_001, 5_359), 53_590_000, "still the first; the second would give 53,589,999.87");
         assert_eq!(most_held(1, 1), 0);
         assert_eq!(most_held(1, 10), 9);
         assert_eq!(most_held(200, 1_000), 194_641);
@@ -254,6 +255,12 @@ mod tests {
     fn void_10000_500_5000() {
         assert_eq!(base(5_000_000), 6_109);
         assert_eq!(section_moment(&[void(10_000, 500, 5_000)]), Some(14_818_333_334));
+    }
+
+    #[test]
+    fn bases_next_to_whole_ones() {
+        // 133,975 is slope × 1,000²/2. For 1,449, b² is 10,815.4: below 104², which is 10,816.
+        assert_eq!([133_974, 133_975, 1_449].map(base), [999, 1_000, 103]);
     }
 
     #[test]

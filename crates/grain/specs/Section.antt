@@ -24,13 +24,16 @@ pub record Kept : Type 0 where
   pub width : ℕ
   pub area : ℕ
 
+abbrev pub kept : (width area : ℕ) → Kept
+kept w a = record { width = w; area = a }
+
 -- The kept areas of a section, with an excess from the cells before it: every cell but the last keeps the smaller of its
 -- area and the most that it can hold; the excess of all goes to the last.
 unfoldable pub keptFrom : ℕ → List Cell → List Kept
 keptFrom excess [] = []
-keptFrom excess (c ∷ []) = record { width = cellWidth c; area = cellArea c + excess } ∷ []
+keptFrom excess (c ∷ []) = kept (cellWidth c) (cellArea c + excess) ∷ []
 keptFrom excess (c ∷ d ∷ cs) =
-    record { width = cellWidth c; area = min (cellArea c) (cellMost c) } ∷ keptFrom (excess + (cellArea c - cellMost c)) (d ∷ cs)
+    kept (cellWidth c) (min (cellArea c) (cellMost c)) ∷ keptFrom (excess + (cellArea c - cellMost c)) (d ∷ cs)
 
 abbrev pub keptOf : List Cell → List Kept
 keptOf cs = keptFrom 0 cs

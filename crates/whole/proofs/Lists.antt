@@ -79,6 +79,13 @@ module _ {X : Type 0} (f : X → Bool) (l : List X) (i : ℕ) (d : X) where
     pub all-done : length l ≤ i → true ≡ all f l
     all-done p = sym (sym left ∙ all-end p)
 
+-- what passes at every entry passes at each
+pub all-at : {X : Type 0} (f : X → Bool) (l : List X) (i : ℕ) (d : X) → all f l ≡ true → i < length l → f (getD l i d) ≡ true
+unfolding all
+all-at f [] i d e p = absurd (omega arith)
+all-at f (x ∷ l) zero d e p = and-true (f x) (all f l) e .0
+all-at f (x ∷ l) (suc i) d e p = all-at f l i d (and-true (f x) (all f l) e .1) (omega arith)
+
 -- one element more of a table that is filled in order
 pub filled-more : {X : Type 0} (d : X) (f : ℕ → X) (l : List X) (i : ℕ) (v : X) → ((k : ℕ) → k < i → getD l k d ≡ f k) → i < length l → v ≡ f i → (k : ℕ) → k < i + 1 → getD (set l i v) k d ≡ f k
 filled-more d f l i v before h e =

@@ -1,13 +1,27 @@
 // Whole-number arithmetic: division rounded up, roots, a product over a divisor, points on a straight line, and the
 // few functions that see the machine's signed numbers.
 ghost use mathlib.Core.Path.{_≡_};
-ghost use Prim.Native.Nat.{ℕ, _+_, _*_, _/_, _%_, _-_, _<_, _≤_, _^_};
+ghost use Prim.Native.Nat.{ℕ, _+_, _*_, _/_, _%_, _-_, _<_, _≤_, _^_, min};
 ghost use lib.Signed.{ltZ};
 ghost use lib.IntN.{ℤ, pos, subℕ};
 ghost use Rattle.whole.specs.Divide.{ceilDiv};
 ghost use Rattle.whole.specs.Root.{root};
 ghost use Rattle.whole.specs.Sign.{plus, minus};
 ghost use Rattle.whole.specs.Line.{onLine, roundDown, lineAt};
+
+// The smaller of two.
+pub fn smaller(a: u64, b: u64) -> u64
+    ensures { λ r. ⌜ r ≡ min a b ⌝ }
+{
+    if a <= b { a } else { b }
+}
+
+// How far a is beyond b: 0 where it is not.
+pub fn beyond(a: u64, b: u64) -> u64
+    ensures { λ r. ⌜ r ≡ a - b ⌝ }
+{
+    if b <= a { a - b } else { 0 }
+}
 
 // n / d, rounded up.
 pub fn divide_up(n: u64, d: u64) -> u64
