@@ -47,6 +47,6 @@ pub record Accurate (cs : List Cell) (k : ℕ) (rs : List ℕ) : Type 0 where
       1200000 * (k * sectionMoment cs) + firsts (firstTo k) (keptOf cs) rs + 600000 * (k * oldTwice 0 cs)
       < 1200000 * (k * highMoment 0 (keptOf cs)) + 400000 * (k * sumOf cellArea cs) + 1200000 * (k * (length cs + 1))
 
--- for every section that fits, at every scale
+-- at every whole scale from 1 up, whichever whole parts of k × base belong to it
 abbrev pub SectionAccuracy : List Cell → Type 0
 SectionAccuracy cs = (k : ℕ) → 0 < k → (rs : List ℕ) → Bases k (keptOf cs) rs → Accurate cs k rs

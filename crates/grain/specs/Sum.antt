@@ -9,6 +9,8 @@ use Rattle.record.specs.declared.Mode.the-variants.{Trimmed, Voided, Partial}
 use Rattle.record.specs.declared.Part.{Part}
 use Rattle.record.specs.declared.Hold.{Hold}
 use Rattle.record.specs.Limits.{cellsOf, partsOf, holdLimits}
+use Rattle.grain.specs.declared.Weighed.{Weighed}
+use Rattle.grain.specs.declared.Weighed.the-variants.{Weight, Limits, NoFit}
 use Rattle.grain.specs.Section.{sectionMoment, fits}
 use Rattle.grain.specs.Slack.{slackMoment}
 
@@ -45,6 +47,16 @@ partFits Partial p = true
 -- whether every part's void fits; if not: code 21
 unfoldable pub holdFits : Hold → Bool
 holdFits h = all (partFits (h .head .mode)) (partsOf h)
+
+-- what a hold record answers: outside its limits (20), a void that does not fit (21), or its weight moment
+unfoldable pub weighedOf : Hold → Weighed
+weighedOf h = cond (holdLimits h) (cond (holdFits h) (Weight (weightMoment h)) NoFit) Limits
+
+-- the paper's code for each answer
+abbrev pub weighedCode : Weighed → ℕ
+weighedCode (Weight w) = 0
+weighedCode Limits = 20
+weighedCode NoFit = 21
 
 -- the weight moments of all holds together; a place that holds no parts counts 0
 unfoldable pub totalWeight : List Hold → ℕ

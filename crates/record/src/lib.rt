@@ -3,7 +3,7 @@ ghost use mathlib.Core.Path.{_≡_};
 ghost use mathlib.Core.Bool.{_&&_};
 ghost use Prim.Native.Nat.{ℕ, _≤_, _<_};
 ghost use Rattle.whole.specs.Lists.{within, all, sumOf};
-ghost use Rattle.record.specs.Limits.{edge, displacement, shipLimits, loadLimits, columnLimits, cellWidth, cellLimits, cellsOf, sectionLimits, slackLimits, partLimits, partsOf, holdLimits, placeLimits};
+ghost use Rattle.record.specs.Limits.{edge, displacement, shipLimits, loadLimits, columnLimits, cellWidth, cellLip, cellLimits, cellsOf, sectionLimits, slackLimits, partLimits, partsOf, holdLimits, placeLimits};
 ghost use Rattle.record.specs.Columns.{held, columnAnswer, noColumns, withColumn};
 
 // The rule that judges the ship, with the angle of deck-edge immersion, in hundredths of a degree.
@@ -171,7 +171,7 @@ pub fn column_limits(k: Column) -> bool
     both(both(head, kn[0] == 0), values_within(kn))
 }
 
-fn width_of(cell: Cell) -> u16
+pub fn width_of(cell: Cell) -> u16
     ensures { λ r. ⌜ r ≡ cellWidth cell ⌝ }
 {
     match cell {
@@ -191,6 +191,29 @@ fn width_of(cell: Cell) -> u16
             depth: _,
             lip: _,
         } => width,
+    }
+}
+
+pub fn lip_of(cell: Cell) -> u16
+    ensures { λ r. ⌜ r ≡ cellLip cell ⌝ }
+{
+    match cell {
+        Cell::Wing {
+            width: _,
+            dist: _,
+            girder: _,
+            lip,
+        } => lip,
+        Cell::Hatch {
+            width: _,
+            opening: _,
+            lip,
+        } => lip,
+        Cell::Void {
+            width: _,
+            depth: _,
+            lip,
+        } => lip,
     }
 }
 

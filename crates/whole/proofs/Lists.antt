@@ -79,6 +79,13 @@ module _ {X : Type 0} (f : X → Bool) (l : List X) (i : ℕ) (d : X) where
     pub all-done : length l ≤ i → true ≡ all f l
     all-done p = sym (sym left ∙ all-end p)
 
+-- a sum after one entry is replaced: the former entry's figure is taken out, the new one's put in
+pub sum-set : {X : Type 0} (f : X → ℕ) (l : List X) (i : ℕ) (x d : X) → i < length l → sumOf f (set l i x) + f (getD l i d) ≡ sumOf f l + f x
+unfolding sumOf
+sum-set f [] i x d p = absurd (omega arith)
+sum-set f (y ∷ l) zero x d p = omega arith
+sum-set f (y ∷ l) (suc i) x d p = omega (arith, sum-set f l i x d (omega arith))
+
 -- what passes at every entry passes at each
 pub all-at : {X : Type 0} (f : X → Bool) (l : List X) (i : ℕ) (d : X) → all f l ≡ true → i < length l → f (getD l i d) ≡ true
 unfolding all

@@ -33,7 +33,7 @@ pub fn divide_up(n: u64, d: u64) -> u64
 
 // The whole part of the root of x, by halving: the root of a quarter of x, doubled, lacks one binary digit.
 pub fn root_of(x: u64) -> u64
-    ensures { λ r. ⌜ r ≡ root x ⌝ }
+    ensures { λ r. ⌜ (r ≡ root x) × (r < 2 ^ 32) ⌝ }
 {
     if x == 0 {
         return 0;

@@ -1,0 +1,73 @@
+use mathlib.Core.Path.{_∙_}
+use Prim.Native.Nat.{_≤_}
+use native.Mathlib.Omega.{arith}
+use native.Mathlib.Nat.{mul-le-mul}
+use Rattle.grain.proofs.Sections.{base-small, first-triangle, first-trapezium, trapezium-taken}
+use borrow.Author.Needs.{needs}
+use Rattle.grain.proofs.first_moment.Statement.{statement}
+use Rattle.grain.proofs.first_moment.Tie as tie
+
+mul-if1 : tie.Need-mul-if1
+mul-if1 c = search needs
+
+mul-if1-2 : tie.Need-mul-if1-2
+mul-if1-2 c = let s = c in let ww = mul-le-mul (s .pre .0) (s .pre .0) in omega (arith, ww, mul-le-mul (s .pre .0) ww, mul-le-mul (s .pre .1) (s .pre .0))
+
+mul-if1-3 : tie.Need-mul-if1-3
+mul-if1-3 c = let s = c in let ww = mul-le-mul (s .pre .0) (s .pre .0) in omega (arith, ww, mul-le-mul (s .pre .0) ww, mul-le-mul (s .pre .1) (s .pre .0))
+
+base-of-requires : tie.Need-base-of-requires
+base-of-requires c κs = search needs
+
+mul-cut : tie.Need-mul-cut
+mul-cut c = let s = c .before .before in let r : c .base-of .result ≤ 40000 = omega (arith, c .base-of .ensures, base-small (s .args .area) (s .pre .1)) in omega (arith, mul-le-mul (s .pre .1) r)
+
+cut-requires : tie.Need-cut-requires
+cut-requires c κs = search needs
+
+mul-cut-2 : tie.Need-mul-cut-2
+mul-cut-2 c = let s = c .before in let ww = mul-le-mul (s .pre .0) (s .pre .0) in omega (arith, ww, mul-le-mul (s .pre .0) ww, mul-le-mul (s .pre .1) (s .pre .0))
+
+mul-cut-3 : tie.Need-mul-cut-3
+mul-cut-3 c = let s = c .before in let ww = mul-le-mul (s .pre .0) (s .pre .0) in omega (arith, ww, mul-le-mul (s .pre .0) ww, mul-le-mul (s .pre .1) (s .pre .0))
+
+mul-cut-4 : tie.Need-mul-cut-4
+mul-cut-4 c = search needs
+
+mul-cut-5 : tie.Need-mul-cut-5
+mul-cut-5 c = let s = c .before in let ww = mul-le-mul (s .pre .0) (s .pre .0) in omega (arith, ww, mul-le-mul (s .pre .0) ww, mul-le-mul (s .pre .1) (s .pre .0))
+
+mul-cut-6 : tie.Need-mul-cut-6
+mul-cut-6 c = let s = c .before in let ww = mul-le-mul (s .pre .0) (s .pre .0) in omega (arith, ww, mul-le-mul (s .pre .0) ww, mul-le-mul (s .pre .1) (s .pre .0))
+
+sub-cut : tie.Need-sub-cut
+sub-cut c = omega (arith, trapezium-taken (c .before .args .w) (c .before .args .area) (c .if1 .left))
+
+cut-requires-2 : tie.Need-cut-requires-2
+cut-requires-2 c κs = search needs
+
+returns : tie.Need-returns
+returns c = let s = c .before .before .before in let r : c .before .base-of .result ≤ 40000 = omega (arith, c .before .base-of .ensures, base-small (s .args .area) (s .pre .1)) in (cc (first-triangle (s .args .w) (s .args .area) (c .before .before .if1 .taken)), omega (arith, c .cut .ensures, mul-le-mul (s .pre .1) r))
+
+returns-2 : tie.Need-returns-2
+returns-2 c = let s = c .before .before in (c .cut2 .ensures ∙ first-trapezium (s .args .w) (s .args .area) (c .before .if1 .left), omega (arith, c .cut2 .ensures, mul-le-mul (s .pre .1) (s .pre .0)))
+
+pub first-moment-spec : {M : Type 1} → statement M
+first-moment-spec =
+    tie.close
+    (tie.spec
+    mul-if1
+    mul-if1-2
+    mul-if1-3
+    base-of-requires
+    mul-cut
+    cut-requires
+    mul-cut-2
+    mul-cut-3
+    mul-cut-4
+    mul-cut-5
+    mul-cut-6
+    sub-cut
+    cut-requires-2
+    returns
+    returns-2)

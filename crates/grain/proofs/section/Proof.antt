@@ -1,0 +1,109 @@
+use borrow.Author.Needs.{needs}
+use mathlib.Core.Path.{_≡_, refl}
+use Prim.Native.Nat.{_+_, _-_, _≤_}
+use native.Mathlib.Omega.{arith}
+use lib.ListN.{length}
+use Rattle.whole.proofs.Lists.{unmapped}
+use Rattle.record.specs.Limits.{cellsOf}
+use Rattle.grain.proofs.Walks.{PartWithin, part-within, Ahead, ahead-start, part-room, part-next, part-last, part-not-negative}
+use Rattle.grain.proofs.section.Statement.{statement}
+use Rattle.grain.proofs.section.Tie as tie
+
+abbrev Inv-loop : tie.InvT-loop
+Inv-loop p n s₀ i₀ s i = PartWithin p × (length (p .cells) ≡ 8) × (n ≡ p .count) × (i + 1 ≤ n) × Ahead (cellsOf p) i s
+
+abbrev μ-loop : tie.MeasureT-loop
+μ-loop p n s₀ i₀ s i = n - i
+
+cast-n : tie.Need-cast-n Inv-loop μ-loop
+cast-n c = search needs
+
+loop-holds : tie.Need-loop-holds Inv-loop μ-loop
+loop-holds c =
+    let p = c .args .t1 in
+    let w = part-within p (c .pre) in
+    let e : length (p .cells) ≡ 8 = search (unmapped, needs) in
+    (w, e, refl, w .low, ahead-start (cellsOf p))
+
+add-loop : tie.Need-add-loop Inv-loop μ-loop
+add-loop c = search needs
+
+mul-slot : tie.Need-mul-slot Inv-loop μ-loop
+mul-slot c = search needs
+
+element-copy-out-slot : tie.Need-element-copy-out-slot Inv-loop μ-loop
+element-copy-out-slot c = search needs
+
+sizes-of-requires : tie.Need-sizes-of-requires Inv-loop μ-loop
+sizes-of-requires c κs = search needs
+
+inner-cell-requires : tie.Need-inner-cell-requires Inv-loop μ-loop
+inner-cell-requires c κs =
+    let l = c .before .before .before in
+    let v = l .loop .inv in
+    rw (c .sizes-of .ensures) (part-room (l .before .args .t1) (v .0) (v .1) (l .loop .i) (l .loop .s) (v .4) (omega arith))
+
+add-i : tie.Need-add-i Inv-loop μ-loop
+add-i c = search needs
+
+loop-less : tie.Need-loop-less Inv-loop μ-loop
+loop-less c = search needs
+
+loop-again : tie.Need-loop-again Inv-loop μ-loop
+loop-again c =
+    let l = c .before .before .before .before in
+    let v = l .loop .inv in (
+      v .0,
+      v .1,
+      refl,
+      omega arith,
+      rw (c .inner-cell .ensures, c .before .sizes-of .ensures)
+          (part-next (l .before .args .t1) (v .0) (v .1) (l .loop .i) (l .loop .s) (v .4) (omega arith) (omega arith)),
+    )
+
+mul-slot-2 : tie.Need-mul-slot-2 Inv-loop μ-loop
+mul-slot-2 c = search needs
+
+element-copy-out-slot-2 : tie.Need-element-copy-out-slot-2 Inv-loop μ-loop
+element-copy-out-slot-2 c = search needs
+
+sizes-of-requires-2 : tie.Need-sizes-of-requires-2 Inv-loop μ-loop
+sizes-of-requires-2 c κs = search needs
+
+last-cell-requires : tie.Need-last-cell-requires Inv-loop μ-loop
+last-cell-requires c κs =
+    let l = c .before .before .before in
+    let v = l .loop .inv in
+    rw (c .sizes-of2 .ensures) (
+      part-room (l .before .args .t1) (v .0) (v .1) (l .loop .i) (l .loop .s) (v .4) (omega arith),
+      part-not-negative (l .before .args .t1) (v .0) (v .1) (l .loop .i) (l .loop .s) (v .4) (omega arith) (omega arith),
+    )
+
+returns : tie.Need-returns Inv-loop μ-loop
+returns c =
+    let l = c .before .before .before .before in
+    let v = l .loop .inv in
+    rw (c .last-cell .ensures, c .before .sizes-of2 .ensures)
+    (part-last (l .before .args .t1) (v .0) (v .1) (l .loop .i) (l .loop .s) (v .4) (omega arith) (omega arith))
+
+pub section-spec : {M : Type 1} → statement M
+section-spec =
+    tie.close
+    (tie.spec
+    Inv-loop
+    μ-loop
+    cast-n
+    loop-holds
+    add-loop
+    mul-slot
+    element-copy-out-slot
+    sizes-of-requires
+    inner-cell-requires
+    add-i
+    loop-less
+    loop-again
+    mul-slot-2
+    element-copy-out-slot-2
+    sizes-of-requires-2
+    last-cell-requires
+    returns)
