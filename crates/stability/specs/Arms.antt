@@ -7,6 +7,7 @@ use lib.ListN.{getD}
 use lib.IntN.{ℤ, pos, subℕ, _-ℤ_}
 use Rattle.whole.specs.Divide.{ceilDiv}
 use Rattle.whole.specs.Line.{onLine, roundDown}
+use Rattle.whole.specs.Lists.{tabulate}
 use Rattle.record.specs.declared.Column.{Column}
 use Rattle.stability.specs.declared.Basis.{Basis}
 use Rattle.stability.specs.declared.Around.{Around}
@@ -70,15 +71,12 @@ heelingArm b k = ceilDiv (1000 * b .weight * (20000 - angle k)) (20000 * b .load
 unfoldable pub diff : Basis → ℕ → ℤ
 diff b k = rightingArm b k -ℤ pos (heelingArm b k)
 
--- a figure at each of the ten angles
-abbrev pub tenOf : {A : Type 0} → (ℕ → A) → List A
-tenOf f = f 0 ∷ f 1 ∷ f 2 ∷ f 3 ∷ f 4 ∷ f 5 ∷ f 6 ∷ f 7 ∷ f 8 ∷ f 9 ∷ []
-
+-- the three at each of the ten angles
 abbrev pub rightingArms : Basis → List ℤ
-rightingArms b = tenOf (rightingArm b)
+rightingArms b = tabulate 10 (rightingArm b)
 
 abbrev pub heelingArms : Basis → List ℕ
-heelingArms b = tenOf (heelingArm b)
+heelingArms b = tabulate 10 (heelingArm b)
 
 abbrev pub diffs : Basis → List ℤ
-diffs b = tenOf (diff b)
+diffs b = tabulate 10 (diff b)

@@ -3,3 +3,5 @@ pub mod Arms
 pub mod Area
 pub mod Verdict
 pub mod Exact
+pub mod Demand
+pub mod Walk

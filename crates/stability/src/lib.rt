@@ -1,5 +1,21 @@
 // Arms and verdict.
+ghost use mathlib.Core.Path.{_≡_};
+ghost use mathlib.Core.Bool.{_&&_};
+ghost use lib.Dec.{leb, ltb};
+ghost use Prim.Native.Nat.{ℕ, suc, _+_, _*_, _-_, _/_, _<_, _≤_, _^_};
+ghost use lib.ListN.{getD};
+ghost use lib.IntN.{ℤ, pos, subℕ};
+ghost use Rattle.whole.specs.Lists.{tabulate};
+ghost use Rattle.whole.specs.Sign.{plus, minus};
+ghost use Rattle.whole.specs.Line.{onLine};
+ghost use Rattle.record.specs.Columns.{held};
+ghost use Rattle.stability.specs.Angles.{angle, sine};
+ghost use Rattle.stability.specs.Arms.{columnsAround, gm, rightingArm, heelingArm, rightingArms, heelingArms, diffs};
+ghost use Rattle.stability.specs.Verdict.{stretchOf, diffAt, peak, isBelow, failsAmong};
+ghost use Rattle.stability.specs.Demand.{Judgeable};
+ghost use Rattle.stability.specs.Walk.{leftOver, leftOvers, ReachOf, Small, Bounded};
 use record::Column;
+use record::Columns;
 use record::Load;
 
 // What the arms are read from: the two columns around the displacement, the load, and the total weight moment W in kg·m.
@@ -32,4 +48,250 @@ pub struct Verdict {
     pub diff: i64,
     pub upper: u64,
     pub area: u64,
+}
+
+// The ten angles, in hundredths of a degree, and their sines, in millionths.
+const ANGLES: [u64; 10] = [0, 500, 1000, 1200, 1500, 2000, 2500, 3000, 3500, 4000];
+
+const SINES: [u64; 10] = [
+    0,
+    87156,
+    173648,
+    207912,
+    258819,
+    342020,
+    422618,
+    500000,
+    573576,
+    642788,
+];
+
+fn angle_at(k: usize) -> u64
+    requires { ⌜ k < 10 ⌝ }
+    ensures { λ r. ⌜ r ≡ angle k ⌝ }
+{
+    ANGLES[k]
+}
+
+fn sine_at(k: usize) -> u64
+    requires { ⌜ k < 10 ⌝ }
+    ensures { λ r. ⌜ r ≡ sine k ⌝ }
+{
+    SINES[k]
+}
+
+// Whether low <= d <= high.
+fn is_between(low: u32, d: u32, high: u32) -> bool
+    ensures { λ r. ⌜ r ≡ (leb low d && leb d high) ⌝ }
+{
+    if low <= d { d <= high } else { false }
+}
+
+// The first two neighbouring columns around d.
+pub fn columns_around(cs: Columns, d: u32) -> Around
+    ensures { λ r. ⌜ r ≡ columnsAround d (held cs) ⌝ }
+{
+    let n = whole::smaller(cs.count as u64, 20) as usize;
+    let mut i: usize = 0;
+    while i + 1 < n {
+        let a = cs.places[i];
+        let b = cs.places[i + 1];
+        if is_between(a.d, d, b.d) {
+            return Around::At(i);
+        }
+        i += 1;
+    }
+    Around::Outside
+}
+
+// The stretch in which the angle x lies.
+fn stretch_of(x: u64) -> usize
+    ensures { λ r. ⌜ r ≡ stretchOf x ⌝ }
+{
+    let mut n: usize = 8;
+    while 0 < n {
+        if angle_at(n) < x {
+            return n;
+        }
+        n -= 1;
+    }
+    0
+}
+
+// The difference of a righting arm and a heeling arm.
+fn left_over(righting: i64, heeling: u64) -> i64
+    requires { ⌜ (plus righting < 2 ^ 40) × (minus righting < 2 ^ 40) × (heeling < 2 ^ 40) ⌝ }
+    ensures { λ r. ⌜ r ≡ leftOver righting heeling ⌝ }
+{
+    whole::difference(
+        whole::above_zero(righting),
+        whole::below_zero(righting) + heeling,
+    )
+}
+
+// A thousand times the value at `past` of `span` on the line from x to y: from mm to micrometres.
+fn arm_over(span: u64, past: u64, x: u64, y: u64) -> u64
+    requires { ⌜ (past ≤ span) × (span ≤ 400000) × (x < 65536) × (y < 65536) ⌝ }
+    ensures { λ r. ⌜ (r ≡ 1000 * onLine span past x y) × (r ≤ 2 ^ 45) ⌝ }
+{
+    1000 * whole::on_line(span, past, x, y)
+}
+
+// D2 - D1, D - D1 and fluid KG.
+struct Reach {
+    span: u64,
+    past: u64,
+    fluid: u64,
+}
+
+fn reach_of(b: Basis) -> Reach
+    requires { ⌜ Judgeable b ⌝ }
+    ensures { λ r. ⌜ ReachOf b r ⌝ }
+{
+    let low = b.low;
+    let high = b.high;
+    let load = b.load;
+    Reach {
+        span: (high.d - low.d) as u64,
+        past: (load.d - low.d) as u64,
+        fluid: load.kg as u64 + load.fs as u64,
+    }
+}
+
+fn gm_of(b: Basis) -> i64
+    requires { ⌜ Judgeable b ⌝ }
+    ensures { λ r. ⌜ r ≡ gm b ⌝ }
+{
+    let low = b.low;
+    let high = b.high;
+    let t = reach_of(b);
+    let km = arm_over(t.span, t.past, low.km as u64, high.km as u64);
+    whole::rounded_down(km, 1000 * t.fluid * t.span, t.span)
+}
+
+// The righting arm at the k-th angle: KN rounded down less fluid KG times the sine rounded up.
+fn righting_at(b: Basis, k: usize) -> i64
+    requires { ⌜ Judgeable b × (k < 10) ⌝ }
+    ensures { λ r. ⌜ (r ≡ rightingArm b k) × (plus r ≤ 2 ^ 26) × (minus r ≤ 2 ^ 26) ⌝ }
+{
+    let low = b.low;
+    let high = b.high;
+    let t = reach_of(b);
+    let a = low.kn;
+    let z = high.kn;
+    let kn = arm_over(t.span, t.past, a[k] as u64, z[k] as u64) / t.span;
+    let kg = whole::divide_up(t.fluid * sine_at(k), 1000);
+    whole::difference(kn, kg)
+}
+
+// The heeling arm at the k-th angle, rounded up.
+fn heeling_at(b: Basis, k: usize) -> u64
+    requires { ⌜ Judgeable b × (k < 10) ⌝ }
+    ensures { λ r. ⌜ (r ≡ heelingArm b k) × (r ≤ 2 ^ 34) ⌝ }
+{
+    let load = b.load;
+    whole::divide_up(
+        1000 * b.weight * (20000 - angle_at(k)),
+        20000 * load.d as u64,
+    )
+}
+
+fn righting_arms(b: Basis) -> [i64; 10]
+    requires { ⌜ Judgeable b ⌝ }
+    ensures { λ r. ⌜ r ≡ rightingArms b ⌝ }
+{
+    let mut arms = [0i64; 10];
+    let mut k: usize = 0;
+    while k < 10 {
+        arms[k] = righting_at(b, k);
+        k += 1;
+    }
+    arms
+}
+
+fn heeling_arms(b: Basis) -> [u64; 10]
+    requires { ⌜ Judgeable b ⌝ }
+    ensures { λ r. ⌜ r ≡ heelingArms b ⌝ }
+{
+    let mut arms = [0u64; 10];
+    let mut k: usize = 0;
+    while k < 10 {
+        arms[k] = heeling_at(b, k);
+        k += 1;
+    }
+    arms
+}
+
+// The ten differences.
+fn differences(righting: [i64; 10], heeling: [u64; 10]) -> [i64; 10]
+    requires { ⌜ Small righting heeling ⌝ }
+    ensures { λ r. ⌜ r ≡ leftOvers righting heeling ⌝ }
+{
+    let mut rest = [0i64; 10];
+    let mut k: usize = 0;
+    while k < 10 {
+        let r = righting[k];
+        rest[k] = left_over(r, heeling[k]);
+        k += 1;
+    }
+    rest
+}
+
+// DIFF at the angle x, rounded down.
+fn diff_at(ds: [i64; 10], x: u64) -> i64
+    requires { ⌜ Bounded ds × (x ≤ 4000) ⌝ }
+    ensures { λ r. ⌜ r ≡ diffAt ds x ⌝ }
+{
+    let i = stretch_of(x);
+    let from = angle_at(i);
+    let d = ds[i];
+    let e = ds[i + 1];
+    whole::line_at(angle_at(i + 1) - from, x - from, d, e)
+}
+
+// The least place at which ds is greatest.
+fn peak_of(ds: [i64; 10]) -> usize
+    ensures { λ r. ⌜ r ≡ peak ds ⌝ }
+{
+    let mut best: usize = 0;
+    let mut i: usize = 1;
+    while i < 10 {
+        let a = ds[best];
+        let b = ds[i];
+        if a < b {
+            best = i;
+        }
+        i += 1;
+    }
+    best
+}
+
+// Whether DIFF is below zero at the k-th angle, which lies above the heel limit and not above UPPER.
+fn fails_at(heel: u64, upper: u64, d: i64, k: usize) -> bool
+    requires { ⌜ k < 10 ⌝ }
+    ensures { λ r. ⌜ r ≡ (ltb heel (angle k) && leb (angle k) upper && isBelow d) ⌝ }
+{
+    let a = angle_at(k);
+    if a <= heel {
+        return false;
+    }
+    if upper < a {
+        return false;
+    }
+    whole::is_below(d)
+}
+
+// Whether DIFF is below zero at one of the ten angles above the heel limit and not above UPPER.
+fn fails_among(heel: u64, upper: u64, ds: [i64; 10]) -> bool
+    ensures { λ r. ⌜ r ≡ failsAmong heel upper ds 10 ⌝ }
+{
+    let mut k: usize = 0;
+    while k < 10 {
+        let d = ds[k];
+        if fails_at(heel, upper, d, k) {
+            return true;
+        }
+        k += 1;
+    }
+    false
 }

@@ -1,5 +1,5 @@
 -- Laws of lists, as loops over arrays use them: at `i + 1`, with what is left of the list, and with what was filled so far.
-use mathlib.Core.Path.{_≡_, refl, sym, _∙_}
+use mathlib.Core.Path.{_≡_, refl, sym, ap, _∙_}
 use mathlib.Core.Bool.{Bool, true, false, _&&_}
 use mathlib.Core.List.{List, [], _∷_, map}
 use Prim.Native.Nat.{ℕ, zero, suc, _+_, _≤_, _<_}
@@ -8,9 +8,9 @@ use native.Mathlib.Omega.{arith}
 use lib.ListN.{length, getD, set, drop, length-map, drop-of-length-le}
 use lib.Dec.{leb}
 use borrow.Author.Tests.{leb-true, le-leb}
-use lib.Seq.{drop-cons, getD-set-same, getD-set-other}
+use lib.Seq.{drop-cons, getD-set-same, getD-set-other, ext-getD}
 use borrow.Author.Count.{below-more}
-use Rattle.whole.specs.Lists.{within, all, sumOf}
+use Rattle.whole.specs.Lists.{within, all, sumOf, tabulate}
 
 -- both tests pass
 pub and-true : (a b : Bool) → (a && b) ≡ true → (a ≡ true) × (b ≡ true)
@@ -98,3 +98,21 @@ pub filled-more : {X : Type 0} (d : X) (f : ℕ → X) (l : List X) (i : ℕ) (v
 filled-more d f l i v before h e =
     below-more (λ k. getD (set l i v) k d ≡ f k) i
     (λ k below. getD-set-other l i k v d (omega arith) ∙ before k below) (getD-set-same l i v d h ∙ e)
+
+-- ---- a table made by a rule
+pub tabulate-at : {X : Type 0} (n : ℕ) (f : ℕ → X) (k : ℕ) (d : X) → k < n → getD (tabulate n f) k d ≡ f k
+unfolding tabulate
+tabulate-at zero f k d h = absurd (omega arith)
+tabulate-at (suc n) f zero d h = refl
+tabulate-at (suc n) f (suc k) d h = tabulate-at n (λ i. f (suc i)) k d (omega arith)
+
+pub tabulate-length : {X : Type 0} (n : ℕ) (f : ℕ → X) → length (tabulate n f) ≡ n
+unfolding tabulate
+tabulate-length zero f = refl
+tabulate-length (suc n) f = ap suc (tabulate-length n (λ i. f (suc i)))
+
+-- an array that was filled by the rule is the table
+pub filled-is : {X : Type 0} (d : X) (n : ℕ) (f : ℕ → X) (l : List X) → length l ≡ n → ((k : ℕ) → k < n → getD l k d ≡ f k) → l ≡ tabulate n f
+filled-is d n f l e at =
+    ext-getD d l (tabulate n f) (e ∙ sym (tabulate-length n f))
+    (λ i h. let k : i < n = omega arith in at i k ∙ sym (tabulate-at n f i d k))

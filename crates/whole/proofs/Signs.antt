@@ -1,5 +1,5 @@
 -- Laws of numbers that may be below zero, and what the machine's signed operations say of them.
-use mathlib.Core.Path.{_≡_, refl, sym, ap, _∙_, subst}
+use mathlib.Core.Path.{_≡_, refl, sym, ap, ap₂, _∙_, subst}
 use mathlib.Core.Bool.{true, false}
 use Prim.Native.Nat.{ℕ, zero, suc, _+_, _-_, _^_, _≤_, _<_, max}
 use native.Mathlib.Nat.{lt-of-not-le}
@@ -7,7 +7,7 @@ use native.Mathlib.Decide.{decLe}
 use native.Mathlib.Omega.{arith}
 use lib.Dec.{T}
 use lib.Signed.{mag, ltZ, nonNeg}
-use lib.IntN.{ℤ, pos, negsuc, subℕ, _+ℤ_, _-ℤ_, natAbs}
+use lib.IntN.{negℤ, ℤ, pos, negsuc, subℕ, _+ℤ_, _-ℤ_, natAbs}
 use borrow.Author.Tests.{lt-ltb, le-ltb, ltb-true, ltb-false}
 use borrow.Author.Needs.{sfits-of}
 use mir.Syntax.{w64}
@@ -52,6 +52,27 @@ sub-eq a b c d e = go (decLe b a)
 pub parts-of : (z : ℤ) → z ≡ subℕ (plus z) (minus z)
 parts-of (pos n) = ap pos (omega arith) ∙ sym (sub-pos n 0 (omega arith))
 parts-of (negsuc n) = ap negsuc (omega arith) ∙ sym (sub-neg 0 (suc n) (omega arith))
+
+-- a sum and a difference, by their parts
+sum-is : (a b : ℤ) → a +ℤ b ≡ subℕ (plus a + plus b) (minus a + minus b)
+sum-is (pos a) (pos b) = ap pos (omega arith) ∙ sym (sub-pos (a + b) (0 + 0) (omega arith))
+sum-is (pos a) (negsuc b) = sub-eq a (suc b) (a + 0) (0 + suc b) (omega arith)
+sum-is (negsuc a) (pos b) = sub-eq b (suc a) (0 + b) (suc a + 0) (omega arith)
+sum-is (negsuc a) (negsuc b) = ap negsuc (omega arith) ∙ sym (sub-neg (0 + 0) (suc a + suc b) (omega arith))
+
+plus-neg : (z : ℤ) → plus (negℤ z) ≡ minus z
+plus-neg (pos zero) = refl
+plus-neg (pos (suc n)) = refl
+plus-neg (negsuc n) = refl
+
+minus-neg : (z : ℤ) → minus (negℤ z) ≡ plus z
+minus-neg (pos zero) = refl
+minus-neg (pos (suc n)) = refl
+minus-neg (negsuc n) = refl
+
+pub difference-is : (a b : ℤ) → a -ℤ b ≡ subℕ (plus a + minus b) (minus a + plus b)
+difference-is a b =
+    sum-is a (negℤ b) ∙ ap₂ subℕ (ap (λ x. plus a + x) (plus-neg b)) (ap (λ x. minus a + x) (minus-neg b))
 
 -- the size of a number bounds both its parts
 pub plus-mag : (z : ℤ) → plus z ≤ mag z
@@ -152,3 +173,11 @@ module _ (z : ℤ) (s : SFits w64 z) (h : Below z) where
 
   pub machine-minus : natAbs (toZ w64 (ofZ w64 (toZ w64 0 -ℤ toZ w64 (ofZ w64 (toZ w64 (ofZ w64 z) +ℤ toZ w64 1))))) + 1 ≡ minus z
   machine-minus = rw machine-back (omega (arith, h .some))
+
+-- the machine's comparison of two numbers, which it holds as bits
+module _ (a b : ℤ) (fa : mag a < 2 ^ 63) (fb : mag b < 2 ^ 63) where
+  pub machine-under : ltZ (toZ w64 (ofZ w64 a)) (toZ w64 (ofZ w64 b)) ≡ true → Under a b
+  machine-under e = lt-under a b (rw (toZ-ofZ {z = a} (sfits-of fa), toZ-ofZ {z = b} (sfits-of fb)) at e)
+
+  pub machine-most : ltZ (toZ w64 (ofZ w64 a)) (toZ w64 (ofZ w64 b)) ≡ false → AtMost b a
+  machine-most e = nlt-most a b (rw (toZ-ofZ {z = a} (sfits-of fa), toZ-ofZ {z = b} (sfits-of fb)) at e)

@@ -1,0 +1,4 @@
+pub mod Tens
+pub mod Bounds
+pub mod Searching
+pub mod Peaks

@@ -1,0 +1,73 @@
+use mathlib.Core.Path.{_≡_, refl}
+use Prim.Native.Nat.{_-_, _≤_}
+use native.Mathlib.Omega.{arith}
+use native.Mathlib.Nat.{mul-le-mul}
+use Rattle.stability.specs.Arms.{heelingArm}
+use Rattle.stability.proofs.Tens.{angle-le}
+use Rattle.stability.proofs.Bounds.{load-bounds, heeling-le}
+use borrow.Author.Needs.{needs}
+use Rattle.stability.proofs.heeling_at.Statement.{statement}
+use Rattle.stability.proofs.heeling_at.Tie as tie
+
+mul-divide-up : tie.Need-mul-divide-up
+mul-divide-up c = search needs
+
+angle-at-requires : tie.Need-angle-at-requires
+angle-at-requires c κs = search needs
+
+sub-divide-up : tie.Need-sub-divide-up
+sub-divide-up c =
+    let s = c .before .before .before in
+    let a = angle-le (s .args .k) (s .pre .1) in
+    let e = c .angle-at .ensures in
+    let w : 20000 - c .angle-at .result ≤ 20000 = omega arith in
+    let d = load-bounds (s .args .b .load) (s .pre .0 .load) .d in
+    omega arith
+
+mul-divide-up-2 : tie.Need-mul-divide-up-2
+mul-divide-up-2 c =
+    let s = c .before .before .before in
+    let a = angle-le (s .args .k) (s .pre .1) in
+    let e = c .angle-at .ensures in
+    let w : 20000 - c .angle-at .result ≤ 20000 = omega arith in
+    let d = load-bounds (s .args .b .load) (s .pre .0 .load) .d in
+    omega (arith, mul-le-mul (s .pre .0 .weight) w)
+
+cast-divide-up : tie.Need-cast-divide-up
+cast-divide-up c = search needs
+
+mul-divide-up-3 : tie.Need-mul-divide-up-3
+mul-divide-up-3 c = search needs
+
+divide-up-requires : tie.Need-divide-up-requires
+divide-up-requires c κs =
+    let s = c .before .before .before .before in
+    let a = angle-le (s .args .k) (s .pre .1) in
+    let e = c .before .angle-at .ensures in
+    let w : 20000 - c .before .angle-at .result ≤ 20000 = omega arith in
+    let d = load-bounds (s .args .b .load) (s .pre .0 .load) .d in
+    omega (arith, mul-le-mul (s .pre .0 .weight) w, d .low, d .high)
+
+returns : tie.Need-returns
+unfolding heelingArm
+returns c =
+    let s = c .before .before .before .before .before in
+    let a = angle-le (s .args .k) (s .pre .1) in
+    let e = c .before .before .angle-at .ensures in
+    let w : 20000 - c .before .before .angle-at .result ≤ 20000 = omega arith in
+    let d = load-bounds (s .args .b .load) (s .pre .0 .load) .d in
+    let h : c .divide-up .result ≡ heelingArm (s .args .b) (s .args .k) = rw (c .divide-up .ensures, e) refl in
+    (h, omega (arith, heeling-le (s .args .b) (s .pre .0) (s .args .k) (s .pre .1)))
+
+pub heeling-at-spec : {M : Type 1} → statement M
+heeling-at-spec =
+    tie.close
+    (tie.spec
+    mul-divide-up
+    angle-at-requires
+    sub-divide-up
+    mul-divide-up-2
+    cast-divide-up
+    mul-divide-up-3
+    divide-up-requires
+    returns)

@@ -1,0 +1,115 @@
+use mathlib.Core.Path.{_≡_, refl, _∙_, ap, ap₂}
+use Prim.Native.Nat.{_/_, _≤_}
+use native.Mathlib.Omega.{arith}
+use native.Mathlib.Nat.{mul-le-mul}
+use mir.Facts.{toZ-ofZ}
+use borrow.Author.Needs.{sfits-of}
+use lib.IntN.{subℕ}
+use Rattle.whole.specs.Sign.{plus, minus}
+use Rattle.whole.proofs.Signs.{sub-reads}
+use Rattle.stability.specs.Arms.{knArm, kgArm, rightingArm}
+use Rattle.stability.proofs.Tens.{sine-le}
+use Rattle.stability.proofs.Bounds.{value-le, kn-le, kg-le}
+use borrow.Author.Needs.{needs}
+use Rattle.stability.proofs.righting_at.Statement.{statement}
+use Rattle.stability.proofs.righting_at.Tie as tie
+
+reach-of-requires : tie.Need-reach-of-requires
+reach-of-requires c κs = search needs
+
+mul-arm-over : tie.Need-mul-arm-over
+mul-arm-over c = search needs
+
+array-read-arm-over : tie.Need-array-read-arm-over
+array-read-arm-over c = search needs
+
+cast-arm-over : tie.Need-cast-arm-over
+cast-arm-over c = search needs
+
+mul-arm-over-2 : tie.Need-mul-arm-over-2
+mul-arm-over-2 c = search needs
+
+array-read-arm-over-2 : tie.Need-array-read-arm-over-2
+array-read-arm-over-2 c = search needs
+
+cast-arm-over-2 : tie.Need-cast-arm-over-2
+cast-arm-over-2 c = search needs
+
+arm-over-requires : tie.Need-arm-over-requires
+arm-over-requires c κs =
+    let s = c .before .before .before .before .before in
+    let j = s .pre .0 in
+    let q = s .args .b in
+    let r = c .before .before .reach-of .ensures in
+    (r .within, r .small, omega (arith, value-le (q .low) (j .low) (j .tenLow) (s .args .k) (s .pre .1)), omega (arith, value-le (q .high) (j .high) (j .tenHigh) (s .args .k) (s .pre .1)))
+
+div-kn : tie.Need-div-kn
+div-kn c = search needs
+
+sine-at-requires : tie.Need-sine-at-requires
+sine-at-requires c κs = search needs
+
+mul-divide-up : tie.Need-mul-divide-up
+mul-divide-up c =
+    let s = c .before .before .before .before .before .before .before .before .before in
+    let j = s .pre .0 in
+    let q = s .args .b in
+    let k = s .args .k in
+    let r = c .before .before .before .before .before .before .reach-of .ensures in
+    let si : c .before .sine-at .result ≤ 642788 = omega (arith, c .before .sine-at .ensures, sine-le k (s .pre .1)) in
+    omega (arith, mul-le-mul (r .low) si)
+
+divide-up-requires : tie.Need-divide-up-requires
+divide-up-requires c κs =
+    let s = c .before .before .before .before .before .before .before .before .before in
+    let j = s .pre .0 in
+    let q = s .args .b in
+    let k = s .args .k in
+    let r = c .before .before .before .before .before .before .reach-of .ensures in
+    let si : c .before .sine-at .result ≤ 642788 = omega (arith, c .before .sine-at .ensures, sine-le k (s .pre .1)) in
+    omega (arith, mul-le-mul (r .low) si)
+
+difference-requires : tie.Need-difference-requires
+unfolding knArm kgArm
+difference-requires c κs =
+    let s = c .before .before .before .before .before .before .before .before .before .before in
+    let j = s .pre .0 in
+    let q = s .args .b in
+    let k = s .args .k in
+    let r = c .before .before .before .before .before .before .before .reach-of .ensures in
+    let kn : c .before .before .before .before .arm-over .result / c .before .before .before .before .before .before .before .reach-of .result .span ≡ knArm q k = rw (c .before .before .before .before .arm-over .ensures .0, r .span, r .past) refl in
+    let kg : c .divide-up .result ≡ kgArm q k = rw (c .divide-up .ensures, r .fluid, c .before .before .sine-at .ensures) refl in
+    omega (arith, kn-le q j k (s .pre .1), kg-le q j k (s .pre .1))
+
+returns : tie.Need-returns
+unfolding knArm kgArm rightingArm
+returns c =
+    let s = c .before .before .before .before .before .before .before .before .before .before .before in
+    let j = s .pre .0 in
+    let q = s .args .b in
+    let k = s .args .k in
+    let r = c .before .before .before .before .before .before .before .before .reach-of .ensures in
+    let kn : c .before .before .before .before .before .arm-over .result / c .before .before .before .before .before .before .before .before .reach-of .result .span ≡ knArm q k = rw (c .before .before .before .before .before .arm-over .ensures .0, r .span, r .past) refl in
+    let kg : c .before .divide-up .result ≡ kgArm q k = rw (c .before .divide-up .ensures, r .fluid, c .before .before .before .sine-at .ensures) refl in
+    let e = toZ-ofZ (sfits-of (c .difference .ok)) ∙ c .difference .ensures ∙ ap₂ subℕ kn kg in
+    let z = sub-reads (knArm q k) (kgArm q k) in
+    (e, omega (arith, ap plus e, z .pluses, kn-le q j k (s .pre .1)), omega (arith, ap minus e, z .minuses, kg-le q j k (s .pre .1)))
+
+pub righting-at-spec : {M : Type 1} → statement M
+righting-at-spec =
+    tie.close
+    (tie.spec
+    reach-of-requires
+    mul-arm-over
+    array-read-arm-over
+    cast-arm-over
+    mul-arm-over-2
+    array-read-arm-over-2
+    cast-arm-over-2
+    arm-over-requires
+    div-kn
+    sine-at-requires
+    mul-divide-up
+    divide-up-requires
+    difference-requires
+    returns)

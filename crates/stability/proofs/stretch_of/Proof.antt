@@ -1,0 +1,49 @@
+use borrow.Author.Needs.{needs}
+use mathlib.Core.Path.{_≡_, sym, _∙_}
+use Prim.Native.Nat.{_≤_}
+use native.Mathlib.Omega.{arith}
+use Rattle.stability.specs.Verdict.{anglesBelow, stretchOf}
+use Rattle.stability.proofs.Tens.{below-found, below-next, below-none}
+use Rattle.stability.proofs.stretch_of.Statement.{statement}
+use Rattle.stability.proofs.stretch_of.Tie as tie
+
+abbrev Inv-loop : tie.InvT-loop
+Inv-loop x n₀ n = (n ≤ 8) × (anglesBelow n x ≡ stretchOf x)
+
+abbrev μ-loop : tie.MeasureT-loop
+μ-loop x n₀ n = n
+
+loop-holds : tie.Need-loop-holds Inv-loop μ-loop
+loop-holds c = search needs
+
+angle-at-requires : tie.Need-angle-at-requires Inv-loop μ-loop
+angle-at-requires c κs = search needs
+
+returns : tie.Need-returns Inv-loop μ-loop
+returns c = let l = c .before .before .before in below-found (l .loop .n) (l .before .args .x) (omega arith) (omega (arith, c .before .angle-at .ensures, c .if1 .taken)) ∙ l .loop .inv .1
+
+sub-n : tie.Need-sub-n Inv-loop μ-loop
+sub-n c = search needs
+
+loop-less : tie.Need-loop-less Inv-loop μ-loop
+loop-less c = search needs
+
+loop-again : tie.Need-loop-again Inv-loop μ-loop
+loop-again c = let l = c .before .before .before in (omega arith, sym (below-next (l .loop .n) (l .before .args .x) (omega arith) (omega (arith, c .before .angle-at .ensures, c .if1 .left))) ∙ l .loop .inv .1)
+
+returns-2 : tie.Need-returns-2 Inv-loop μ-loop
+returns-2 c = below-none (c .before .loop .n) (c .before .before .args .x) (omega arith) ∙ c .before .loop .inv .1
+
+pub stretch-of-spec : {M : Type 1} → statement M
+stretch-of-spec =
+    tie.close
+    (tie.spec
+    Inv-loop
+    μ-loop
+    loop-holds
+    angle-at-requires
+    returns
+    sub-n
+    loop-less
+    loop-again
+    returns-2)
