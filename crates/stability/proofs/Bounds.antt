@@ -1,5 +1,5 @@
 -- How large the figures of a basis within its limits are.
-use mathlib.Core.Path.{_≡_}
+use mathlib.Core.Path.{_≡_, ap₂, _∙_}
 use mathlib.Core.Bool.{true, _&&_}
 use Prim.Native.Nat.{ℕ, _+_, _*_, _-_, _≤_, _<_}
 use native.Mathlib.Omega.{arith}
@@ -9,7 +9,8 @@ use lib.ListN.{length, getD}
 use lib.IntN.{pos}
 use Rattle.whole.specs.Lists.{within, all}
 use Rattle.whole.specs.Sign.{plus, minus}
-use Rattle.whole.proofs.Lists.{and-true, Within, within-true, all-at}
+use Rattle.whole.proofs.Lists.{and-true, Within, within-true, all-at, tabulate-at, tabulate-length, filled-is}
+use Rattle.whole.proofs.Signs.{sub-reads}
 use Rattle.whole.proofs.Lines.{line-le}
 use Rattle.whole.proofs.Dividing.{ceil-le}
 use Rattle.record.specs.declared.Column.{Column}
@@ -17,7 +18,8 @@ use Rattle.record.specs.declared.Load.{Load}
 use Rattle.record.specs.Limits.{displacement, columnLimits, loadLimits}
 use Rattle.stability.specs.declared.Basis.{Basis}
 use Rattle.stability.specs.Angles.{angle, sine}
-use Rattle.stability.specs.Arms.{span, past, fluidKG, knArm, kgArm, heelingArm, diffs}
+use Rattle.stability.specs.Arms.{span, past, fluidKG, knArm, kgArm, rightingArm, heelingArm, diff, rightingArms, heelingArms, diffs}
+use Rattle.stability.specs.Walk.{leftOver, leftOvers, Small, Bounded}
 use Rattle.stability.specs.Demand.{Judgeable}
 use Rattle.stability.proofs.Tens.{sine-le, diff-reads}
 
@@ -95,3 +97,22 @@ module _ (b : Basis) (j : Judgeable b) where
 
     pub diff-minus : minus (getD (diffs b) k (pos 0)) ≤ 10040000000
     diff-minus = omega (arith, diff-reads b k h .minuses, kg-le, heeling-le)
+
+  -- the arrays of arms can be subtracted, and their differences are the ten DIFFs
+  pub arms-small : Small (rightingArms b) (heelingArms b)
+  unfolding rightingArm
+  arms-small =
+      record {
+        above = λ k h. rw (tabulate-at 10 (rightingArm b) k (pos 0) h) (omega (arith, sub-reads (knArm b k) (kgArm b k) .pluses, kn-le k h));
+        below = λ k h. rw (tabulate-at 10 (rightingArm b) k (pos 0) h) (omega (arith, sub-reads (knArm b k) (kgArm b k) .minuses, kg-le k h));
+        heeling = λ k h. rw (tabulate-at 10 (heelingArm b) k 0 h) (omega (arith, heeling-le k h));
+      }
+
+  pub diffs-bounded : Bounded (diffs b)
+  diffs-bounded = record { above = λ k h. omega (arith, diff-plus k h); below = λ k h. omega (arith, diff-minus k h) }
+
+pub left-overs-are : (b : Basis) → leftOvers (rightingArms b) (heelingArms b) ≡ diffs b
+unfolding diff
+left-overs-are b =
+    filled-is (pos 0) 10 (diff b) (leftOvers (rightingArms b) (heelingArms b)) (tabulate-length 10 _)
+    (λ k h. tabulate-at 10 _ k (pos 0) h ∙ ap₂ leftOver (tabulate-at 10 (rightingArm b) k (pos 0) h) (tabulate-at 10 (heelingArm b) k 0 h))

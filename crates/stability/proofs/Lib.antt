@@ -2,3 +2,4 @@ pub mod Tens
 pub mod Bounds
 pub mod Searching
 pub mod Peaks
+pub mod Stretches

@@ -4,6 +4,7 @@ use Prim.Native.Nat.{ℕ, suc, _-_, min}
 use lib.ListN.{getD}
 use Rattle.record.specs.declared.Rule.{Rule}
 use Rattle.record.specs.declared.Rule.the-variants.{New, Old}
+use Rattle.record.specs.declared.Ship.{Ship}
 
 abbrev pub angles : List ℕ
 angles = 0 ∷ 500 ∷ 1000 ∷ 1200 ∷ 1500 ∷ 2000 ∷ 2500 ∷ 3000 ∷ 3500 ∷ 4000 ∷ []
@@ -21,7 +22,11 @@ sine k = getD sines k 0
 abbrev pub width : ℕ → ℕ
 width k = angle (suc k) - angle k
 
+-- under `new`, EDGE; under `old` no angle
+abbrev pub atMostEdge : Rule → ℕ → ℕ
+atMostEdge (New edge) x = min x edge
+atMostEdge (Old edge) x = x
+
 -- the heel limit: 1,200; under `new`, EDGE if smaller
-abbrev pub heelLimit : Rule → ℕ
-heelLimit (New edge) = min 1200 edge
-heelLimit (Old edge) = 1200
+abbrev pub heelLimit : Ship → ℕ
+heelLimit s = atMostEdge (s .rule) 1200

@@ -32,7 +32,7 @@ pub record Judgeable (b : Basis) : Type 0 where
 
 module _ (s : Ship) (b : Basis) where
   abbrev pub heel : ℕ
-  heel = heelLimit (s .rule)
+  heel = heelLimit s
 
   abbrev pub verdict : Verdict
   verdict = verdictOf s b

@@ -82,4 +82,4 @@ verdictFrom heel up g ds =
     record { judgement = judgementOf heel up g ds; gm = g; diff = diffAt ds heel; upper = up; area = area ds up }
 
 unfoldable pub verdictOf : Ship → Basis → Verdict
-verdictOf s b = verdictFrom (heelLimit (s .rule)) (upper (s .flood) (diffs b)) (gm b) (diffs b)
+verdictOf s b = verdictFrom (heelLimit s) (upper (s .flood) (diffs b)) (gm b) (diffs b)

@@ -1,5 +1,10 @@
 -- How the program puts DIFF together from the arrays of arms: the same figures, by their parts above and below zero.
 use mathlib.Core.Path.{_≡_}
+use mathlib.Core.Bool.{Bool, cond}
+use lib.Dec.{ltb}
+use lib.Signed.{ltZ}
+use Rattle.stability.specs.declared.Judgement.{Judgement}
+use Rattle.stability.specs.declared.Judgement.the-variants.{Passed, ShortOfGm, ShortAtHeel, ShortBeyond, ShortOfArea}
 use mathlib.Core.List.{List}
 use Prim.Native.Nat.{ℕ, _+_, _^_, _<_, _≤_}
 use lib.ListN.{getD}
@@ -9,6 +14,7 @@ use lib.IntN.{ℤ, pos, _-ℤ_}
 use Rattle.stability.specs.declared.Basis.{Basis}
 use Rattle.stability.specs.declared.Reach.{Reach}
 use Rattle.stability.specs.Arms.{span, past, fluidKG}
+use Rattle.stability.specs.Area.{areaAbove, endsAbove}
 
 -- a righting arm less a heeling arm
 abbrev pub leftOver : ℤ → ℕ → ℤ
@@ -38,3 +44,27 @@ pub record Small (rs : List ℤ) (hs : List ℕ) : Type 0 where
 pub record Bounded (ds : List ℤ) : Type 0 where
   pub above : (k : ℕ) → k < 10 → plus (getD ds k (pos 0)) ≤ 2 ^ 26
   pub below : (k : ℕ) → k < 10 → minus (getD ds k (pos 0)) ≤ 2 ^ 34
+
+-- ends small enough for a product
+pub record EndsFit (h t p₁ m₁ p₂ m₂ : ℕ) : Type 0 where
+  pub part : t ≤ h
+  pub width : h ≤ 500
+  pub up₁ : p₁ ≤ 2 ^ 34
+  pub down₁ : m₁ ≤ 2 ^ 34
+  pub up₂ : p₂ ≤ 2 ^ 34
+  pub down₂ : m₂ ≤ 2 ^ 34
+
+pub record EndBounds (d : ℤ) : Type 0 where
+  pub above : plus d ≤ 2 ^ 26
+  pub below : minus d ≤ 2 ^ 34
+
+-- the area above zero of the first t of a stretch of width h, on the line from d to e
+abbrev pub partArea : (h t : ℕ) (d e : ℤ) → ℕ
+partArea h t d e =
+    areaAbove t h (endsAbove h t (plus d) (minus d) (plus e) (minus e)) (endsAbove h t (minus d) (plus d) (minus e) (plus e))
+
+-- the first test that fails, from the figures of each
+unfoldable pub judgedBy : (gm diff : ℤ) → Bool → (area : ℕ) → Judgement
+judgedBy gm diff beyond area =
+    cond (ltZ gm (pos 300000)) ShortOfGm
+    (cond (ltZ diff (pos 0)) ShortAtHeel (cond beyond ShortBeyond (cond (ltb area 429718347) ShortOfArea Passed)))

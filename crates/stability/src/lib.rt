@@ -9,14 +9,17 @@ ghost use Rattle.whole.specs.Lists.{tabulate};
 ghost use Rattle.whole.specs.Sign.{plus, minus};
 ghost use Rattle.whole.specs.Line.{onLine};
 ghost use Rattle.record.specs.Columns.{held};
-ghost use Rattle.stability.specs.Angles.{angle, sine};
+ghost use Rattle.stability.specs.Angles.{angle, sine, heelLimit};
 ghost use Rattle.stability.specs.Arms.{columnsAround, gm, rightingArm, heelingArm, rightingArms, heelingArms, diffs};
-ghost use Rattle.stability.specs.Verdict.{stretchOf, diffAt, peak, isBelow, failsAmong};
+ghost use Rattle.stability.specs.Verdict.{stretchOf, diffAt, peak, upper, isBelow, failsAmong, failsBeyond, verdictFrom, verdictOf};
 ghost use Rattle.stability.specs.Demand.{Judgeable};
-ghost use Rattle.stability.specs.Walk.{leftOver, leftOvers, ReachOf, Small, Bounded};
+ghost use Rattle.stability.specs.Walk.{leftOver, leftOvers, ReachOf, Small, Bounded, EndsFit, EndBounds, partArea, judgedBy};
+ghost use Rattle.stability.specs.Area.{areaAbove, endsAbove, stretchArea, areaOver, plusAt, minusAt, area};
 use record::Column;
 use record::Columns;
 use record::Load;
+use record::Rule;
+use record::Ship;
 
 // What the arms are read from: the two columns around the displacement, the load, and the total weight moment W in kg·m.
 pub struct Basis {
@@ -294,4 +297,165 @@ fn fails_among(heel: u64, upper: u64, ds: [i64; 10]) -> bool
         k += 1;
     }
     false
+}
+
+// How far the two ends of the first t of h lie above zero, together, at h times their size.
+fn ends_above(h: u64, t: u64, p1: u64, m1: u64, p2: u64, m2: u64) -> u64
+    requires { ⌜ EndsFit h t p1 m1 p2 m2 ⌝ }
+    ensures { λ r. ⌜ (r ≡ endsAbove h t p1 m1 p2 m2) × (r ≤ h * p1 + onLine h t p1 p2) ⌝ }
+{
+    let start = whole::beyond(h * p1, h * m1);
+    start + whole::beyond(whole::on_line(h, t, p1, p2), whole::on_line(h, t, m1, m2))
+}
+
+// The area above zero under a line over t: the general case is the one that needs a long division.
+fn area_above(t: u64, s: u64, u: u64, n: u64) -> u64
+    requires { ⌜ (t ≤ 500) × (0 < s) × (s ≤ 500) × (u ≤ 2 ^ 37) × (n ≤ 2 ^ 45) ⌝ }
+    ensures { λ r. ⌜ r ≡ areaAbove t s u n ⌝ }
+{
+    if u == 0 {
+        return 0;
+    }
+    if n == 0 {
+        return t * u / (2 * s);
+    }
+    whole::product_over(t * u, u, 2 * s * (u + n))
+}
+
+// The same for a whole stretch, with the ends at their own size: one division.
+fn whole_area(h: u64, u: u64, n: u64) -> u64
+    requires { ⌜ (h ≤ 500) × (u ≤ 2 ^ 27) × (n ≤ 2 ^ 35) ⌝ }
+    ensures { λ r. ⌜ r ≡ h * u * u / (2 * (u + n)) ⌝ }
+{
+    if u == 0 {
+        return 0;
+    }
+    h * u * u / (2 * (u + n))
+}
+
+// The part t of a stretch of width h.
+fn part_area(h: u64, t: u64, d: i64, e: i64) -> u64
+    requires { ⌜ (t ≤ h) × (0 < h) × (h ≤ 500) × EndBounds d × EndBounds e ⌝ }
+    ensures { λ r. ⌜ r ≡ partArea h t d e ⌝ }
+{
+    let p1 = whole::above_zero(d);
+    let m1 = whole::below_zero(d);
+    let p2 = whole::above_zero(e);
+    let m2 = whole::below_zero(e);
+    let u = ends_above(h, t, p1, m1, p2, m2);
+    let n = ends_above(h, t, m1, p1, m2, p2);
+    area_above(t, h, u, n)
+}
+
+// The whole of a stretch of width h.
+fn full_area(h: u64, d: i64, e: i64) -> u64
+    requires { ⌜ (0 < h) × (h ≤ 500) × EndBounds d × EndBounds e ⌝ }
+    ensures { λ r. ⌜ r ≡ partArea h h d e ⌝ }
+{
+    let u = whole::above_zero(d) + whole::above_zero(e);
+    let n = whole::below_zero(d) + whole::below_zero(e);
+    whole_area(h, u, n)
+}
+
+// The stretch behind the k-th angle, up to UPPER.
+fn stretch_area(ds: [i64; 10], upper: u64, k: usize) -> u64
+    requires { ⌜ Bounded ds × (k < 9) ⌝ }
+    ensures { λ r. ⌜ (r ≡ stretchArea (plusAt ds) (minusAt ds) upper k) × (r ≤ 2 ^ 36) ⌝ }
+{
+    let from = angle_at(k);
+    if upper <= from {
+        return 0;
+    }
+    let to = angle_at(k + 1);
+    let d = ds[k];
+    let e = ds[k + 1];
+    if to <= upper {
+        return full_area(to - from, d, e);
+    }
+    part_area(to - from, upper - from, d, e)
+}
+
+// AREA from 0 to UPPER.
+fn area_to(ds: [i64; 10], upper: u64) -> u64
+    requires { ⌜ Bounded ds ⌝ }
+    ensures { λ r. ⌜ r ≡ area ds upper ⌝ }
+{
+    let mut total: u64 = 0;
+    let mut k: usize = 0;
+    while k < 9 {
+        total += stretch_area(ds, upper, k);
+        k += 1;
+    }
+    total
+}
+
+fn heel_limit(s: Ship) -> u64
+    ensures { λ r. ⌜ (r ≡ heelLimit s) × (r ≤ 1200) ⌝ }
+{
+    let rule = s.rule;
+    match rule {
+        Rule::New(edge) => whole::smaller(1200, edge as u64),
+        Rule::Old(_) => 1200,
+    }
+}
+
+// Whether one of the angles that code 42 names fails.
+fn fails_beyond(heel: u64, upper: u64, ds: [i64; 10]) -> bool
+    requires { ⌜ Bounded ds × (upper ≤ 4000) ⌝ }
+    ensures { λ r. ⌜ r ≡ failsBeyond heel upper ds ⌝ }
+{
+    if fails_among(heel, upper, ds) {
+        return true;
+    }
+    if upper <= heel {
+        return false;
+    }
+    whole::is_below(diff_at(ds, upper))
+}
+
+// The first test that fails.
+fn judgement_of(gm: i64, diff: i64, beyond: bool, area: u64) -> Judgement
+    ensures { λ r. ⌜ r ≡ judgedBy gm diff beyond area ⌝ }
+{
+    if gm < 300000 {
+        return Judgement::ShortOfGm;
+    }
+    if diff < 0 {
+        return Judgement::ShortAtHeel;
+    }
+    if beyond {
+        return Judgement::ShortBeyond;
+    }
+    if area < 429718347 {
+        return Judgement::ShortOfArea;
+    }
+    Judgement::Passed
+}
+
+// The verdict on ten DIFFs.
+fn verdict_from(heel: u64, flood: u64, gm: i64, ds: [i64; 10]) -> Verdict
+    requires { ⌜ Bounded ds × (heel ≤ 1200) ⌝ }
+    ensures { λ r. ⌜ r ≡ verdictFrom heel (upper flood ds) gm ds ⌝ }
+{
+    let upper = whole::smaller(flood, angle_at(peak_of(ds)));
+    let diff = diff_at(ds, heel);
+    let area = area_to(ds, upper);
+    let judgement = judgement_of(gm, diff, fails_beyond(heel, upper, ds), area);
+    Verdict {
+        judgement,
+        gm,
+        diff,
+        upper,
+        area,
+    }
+}
+
+// The verdict on a ship, from two columns around D, a load and a weight moment within their limits.
+pub fn judge(s: Ship, b: Basis) -> Verdict
+    requires { ⌜ Judgeable b ⌝ }
+    ensures { λ r. ⌜ r ≡ verdictOf s b ⌝ }
+{
+    let flood = s.flood as u64;
+    let ds = differences(righting_arms(b), heeling_arms(b));
+    verdict_from(heel_limit(s), flood, gm_of(b), ds)
 }

@@ -1,0 +1,52 @@
+use borrow.Author.Needs.{needs}
+use mathlib.Core.Path.{_≡_, _∙_, ap₂}
+use Prim.Native.Nat.{_+_, _*_, _-_, _^_, _≤_}
+use native.Mathlib.Omega.{arith}
+use Rattle.stability.specs.Area.{areaOver, plusAt, minusAt}
+use Rattle.stability.proofs.Stretches.{area-none, area-more}
+use Rattle.stability.proofs.area_to.Statement.{statement}
+use Rattle.stability.proofs.area_to.Tie as tie
+
+abbrev Inv-loop : tie.InvT-loop
+Inv-loop ds upper total₀ k₀ total k = (k ≤ 9) × (total ≡ areaOver (plusAt ds) (minusAt ds) upper k) × (total ≤ k * 2 ^ 36)
+
+abbrev μ-loop : tie.MeasureT-loop
+μ-loop ds upper total₀ k₀ total k = 9 - k
+
+loop-holds : tie.Need-loop-holds Inv-loop μ-loop
+loop-holds c = (omega arith, area-none (c .args .ds) (c .args .upper), omega arith)
+
+stretch-area-requires : tie.Need-stretch-area-requires Inv-loop μ-loop
+stretch-area-requires c κs = (c .before .before .pre, omega arith)
+
+add-total : tie.Need-add-total Inv-loop μ-loop
+add-total c = search needs
+
+add-k : tie.Need-add-k Inv-loop μ-loop
+add-k c = search needs
+
+loop-less : tie.Need-loop-less Inv-loop μ-loop
+loop-less c = search needs
+
+loop-again : tie.Need-loop-again Inv-loop μ-loop
+loop-again c =
+    let l = c .before .before in
+    let a = l .before .args in
+    (omega arith, ap₂ _+_ (l .loop .inv .1) (c .stretch-area .ensures .0) ∙ area-more (a .ds) (a .upper) (l .loop .k), omega arith)
+
+returns : tie.Need-returns Inv-loop μ-loop
+returns c = let e : c .before .loop .k ≡ 9 = omega arith in rw e at (c .before .loop .inv .1)
+
+pub area-to-spec : {M : Type 1} → statement M
+area-to-spec =
+    tie.close
+    (tie.spec
+    Inv-loop
+    μ-loop
+    loop-holds
+    stretch-area-requires
+    add-total
+    add-k
+    loop-less
+    loop-again
+    returns)
