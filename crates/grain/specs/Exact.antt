@@ -5,15 +5,15 @@ use mathlib.Core.List.{List, [], _∷_}
 use Prim.Native.Nat.{ℕ, _+_, _*_, _<_, _≤_}
 use lib.Dec.{T}
 use lib.ListN.{length}
+use Rattle.whole.specs.Root.{RootAt}
 use Rattle.whole.specs.Lists.{sumOf}
 use Rattle.record.specs.declared.Cell.{Cell}
 use Rattle.grain.specs.Depth.{cellArea}
 use Rattle.grain.specs.Section.{Kept, keptOf, isTriangle, trapezium, highMoment, oldTwice, sectionMoment}
 
 -- r is the whole part of k × base, where base² = 2 × area/slope
-pub record Base (area k r : ℕ) : Type 0 where
-  pub low : 26795 * (r * r) ≤ 200000 * (area * (k * k))
-  pub high : 200000 * (area * (k * k)) < 26795 * ((r + 1) * (r + 1))
+abbrev pub Base : (area k r : ℕ) → Type 0
+Base area k r = RootAt (200000 * area) 26795 k r
 
 -- The whole parts belong to these kept areas.
 abbrev pub Bases : ℕ → List Kept → List ℕ → Type 0

@@ -73,6 +73,7 @@ unfoldable pub oldTwice : ℕ → List Cell → ℕ
 oldTwice x [] = 0
 oldTwice x (c ∷ cs) = cellArea c * (2 * x + cellWidth c) + oldTwice (x + cellWidth c) cs
 
--- The section moment. The sum for the old areas is rounded down once.
+-- The section moment. The sum for the old areas is rounded down once. (Neither subtraction is cut at zero for a section within its
+-- limits: `section-not-negative`.)
 unfoldable pub sectionMoment : List Cell → ℕ
 sectionMoment cs = highMoment 0 (keptOf cs) - sumOf firstMoment (keptOf cs) - oldTwice 0 cs / 2

@@ -20,9 +20,13 @@ partSection Trimmed p = sectionMoment (cellsOf p)
 partSection Voided p = sectionMoment (cellsOf p)
 partSection Partial p = slackMoment p
 
--- a part: section moment × LENGTH, rounded up to thousandths of m⁴ (10⁹ mm⁴ each)
+-- section moment × LENGTH, in mm⁴
+abbrev pub partVolume : Mode → Part → ℕ
+partVolume mode p = partSection mode p * p .length
+
+-- a part: that, rounded up to thousandths of m⁴ (10⁹ mm⁴ each)
 unfoldable pub partMoment : Mode → Part → ℕ
-partMoment mode p = ceilDiv (partSection mode p * p .length) 1000000000
+partMoment mode p = ceilDiv (partVolume mode p) 1000000000
 
 -- the percentage of a hold, by its mode
 abbrev pub percentage : Mode → ℕ
@@ -58,6 +62,7 @@ weighedCode (Weight w) = 0
 weighedCode Limits = 20
 weighedCode NoFit = 21
 
--- the weight moments of all holds together; a place that holds no parts counts 0
+-- the weight moments of all holds together; a place that holds no parts counts 0 (`nothing-weighs`: 0 over any SF is 0, over the
+-- filler's 0 too)
 unfoldable pub totalWeight : List Hold → ℕ
 totalWeight hs = sumOf weightMoment hs

@@ -37,7 +37,7 @@ abbrev pub withColumns : Condition → Columns → Condition
 withColumns c ks =
     record { shipped = c .shipped; ship = c .ship; loaded = c .loaded; load = c .load; columns = ks; holds = c .holds }
 
--- hold N stands in the place N − 1; a new one replaces the former one
+-- hold N, from 1 on, stands in the place N − 1; a new one replaces the former one
 abbrev pub withHold : Condition → ℕ → Hold → Condition
 withHold c n h =
     record {

@@ -2,15 +2,13 @@
 -- about, the paper leaves the answer free: such a ship or load counts as none (30, 32), such columns as too few (31), and a
 -- hold that is outside its limits or does not fit as too much weight (34).
 use mathlib.Core.Bool.{Bool, true, false, cond, not, _&&_, _||_}
-use mathlib.Core.List.{List, [], _∷_}
 use Prim.Native.Nat.{ℕ, suc}
-use lib.Dec.{leb, ltb}
+use lib.Dec.{leb}
 use lib.ListN.{length, getD}
 use Rattle.whole.specs.Lists.{all}
-use Rattle.record.specs.declared.Column.{Column}
 use Rattle.record.specs.declared.Hold.{Hold}
-use Rattle.record.specs.Limits.{shipLimits, loadLimits, columnLimits, holdLimits}
-use Rattle.record.specs.Columns.{held, noColumn}
+use Rattle.record.specs.Limits.{shipLimits, loadLimits, holdLimits}
+use Rattle.record.specs.Columns.{held, noColumn, inOrder}
 use Rattle.grain.specs.Sum.{holdFits, totalWeight}
 use Rattle.stability.specs.declared.Basis.{Basis}
 use Rattle.stability.specs.declared.Around.{Around}
@@ -20,12 +18,6 @@ use Rattle.stability.specs.Arms.{columnsAround}
 use Rattle.stability.specs.Verdict.{verdictOf}
 use Rattle.panel.specs.declared.Condition.{Condition}
 use Rattle.panel.specs.Condition.{isHeld}
-
--- each column within its limits and above the one before
-unfoldable pub inOrder : List Column → Bool
-inOrder [] = true
-inOrder (k ∷ []) = columnLimits k
-inOrder (k ∷ m ∷ ks) = columnLimits k && ltb (k .d) (m .d) && inOrder (m ∷ ks)
 
 -- a place is empty, or its hold is within its limits and fits
 abbrev pub soundPlace : Hold → Bool

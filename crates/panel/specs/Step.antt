@@ -15,6 +15,8 @@ use Rattle.request.specs.declared.Kind.{Kind}
 use Rattle.request.specs.declared.Kind.the-variants.{ShipLine, ColumnLine, LoadLine, HoldLine, DropLine, JudgeLine, ClearLine, NoShape}
 use Rattle.request.specs.declared.Request.{Request}
 use Rattle.request.specs.Shape.{requestOf}
+use lib.ListN.{length}
+use Rattle.reply.specs.Written.{over}
 use Rattle.reply.specs.Replies.{answerReply, refusalReply, verdictReply}
 use Rattle.panel.specs.declared.Condition.{Condition}
 use Rattle.panel.specs.Condition.{empty}
@@ -66,6 +68,10 @@ outcomeAfter c line BadNumber = answered (refusedWith (readingCode BadNumber) c)
 unfoldable pub stepOf : Condition → List ℕ → (n : ℕ) → Outcome
 stepOf c line n =
     cond (ltb n 96) (record { code = 15; reply = []; after = c }) (outcomeAfter c line (readingOf line))
+
+-- the lent buffer after a line: the reply over its front, the bytes behind it as they were
+abbrev pub bufferAfter : Condition → (line lent : List ℕ) → List ℕ
+bufferAfter c line lent = over (stepOf c line (length lent) .reply) lent
 
 -- the condition after a list of lines, each with its buffer's length, and the replies to them
 pub record Sent : Type 0 where

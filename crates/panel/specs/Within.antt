@@ -2,18 +2,17 @@
 use mathlib.Core.Path.{_≡_}
 use mathlib.Core.Bool.{Bool, true, false}
 use mathlib.Core.List.{List, [], _∷_}
-use Prim.Native.Nat.{ℕ, _+_, _≤_, _<_}
+use Prim.Native.Nat.{ℕ, _+_, _-_, _≤_, _<_}
 use lib.ListN.{length, getD}
 use Rattle.record.specs.declared.Column.{Column}
 use Rattle.record.specs.declared.Part.{Part}
 use Rattle.record.specs.declared.Hold.{Hold}
-use Rattle.record.specs.Columns.{held}
+use Rattle.record.specs.Columns.{held, noColumn}
 use Rattle.record.specs.Filler.{noHold}
-use Rattle.stability.specs.declared.Verdict.{Verdict}
 use Rattle.panel.specs.declared.Condition.{Condition}
 use Rattle.panel.specs.Condition.{empty, isHeld}
 use Rattle.panel.specs.Operations.{shipOperation, loadOperation, columnOperation, holdOperation}
-use Rattle.panel.specs.Judge.{Judged, refused, judged, judgedOf}
+use Rattle.panel.specs.Judge.{weight}
 
 -- the columns, sent one after the other, are each taken with 00
 abbrev pub ColumnsTaken : Condition → List Column → Type 0
@@ -34,6 +33,12 @@ pub record Within (c : Condition) : Type 0 where
   pub columns : ColumnsTaken empty (held (c .columns))
   pub holds : (n : ℕ) → n < 16 → isHeld (getD (c .holds) n noHold) ≡ true → holdOperation empty (n + 1) (getD (c .holds) n noHold) .code ≡ 0
 
--- none of 30 to 34 applies: judge gives a verdict
-abbrev pub Complete : Condition → Type 0
-Complete c = (v : Verdict) × (judgedOf c ≡ judged v)
+-- none of 30 to 34 applies, each said by its own words: a ship; two columns; a load; D neither below the first nor above the last
+-- column; weight moments together at most 1,000,000,000
+pub record Complete (c : Condition) : Type 0 where
+  pub ship : c .shipped ≡ true
+  pub columns : 2 ≤ length (held (c .columns))
+  pub load : c .loaded ≡ true
+  pub fromFirst : getD (held (c .columns)) 0 noColumn .d ≤ c .load .d
+  pub toLast : c .load .d ≤ getD (held (c .columns)) (length (held (c .columns)) - 1) noColumn .d
+  pub weights : weight c ≤ 1000000000

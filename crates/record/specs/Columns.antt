@@ -25,6 +25,12 @@ unfoldable pub columnAnswer : List Column → Column → Added
 columnAnswer ks k =
     cond (not (columnLimits k)) Limits (cond (leb 20 (length ks)) Full (cond (isAbove (k .d) ks) Taken NotAbove))
 
+-- each column within its limits and above the one before
+unfoldable pub inOrder : List Column → Bool
+inOrder [] = true
+inOrder (k ∷ []) = columnLimits k
+inOrder (k ∷ m ∷ ks) = columnLimits k && ltb (k .d) (m .d) && inOrder (m ∷ ks)
+
 -- the paper's code for each answer
 abbrev pub addedCode : Added → ℕ
 addedCode Taken = 0

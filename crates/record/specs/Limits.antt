@@ -27,7 +27,7 @@ edge (Old e) = e
 unfoldable pub shipLimits : Ship → Bool
 shipLimits s = within 1 9000 (edge (s .rule)) && within 1 9000 (s .flood)
 
--- displacement D, in tonnes
+-- displacement D, in tonnes: 100 to 400,000
 abbrev pub displacement : ℕ → Bool
 displacement d = within 100 400000 d
 
@@ -88,6 +88,6 @@ unfoldable pub holdLimits : Hold → Bool
 holdLimits h =
     within 1 6 (h .head .count) && (within 5000 40000 (h .head .factor) && all (partLimits (h .head .mode)) (partsOf h))
 
--- N, the number of a hold
+-- N, the number of a hold: 1 to 16
 abbrev pub placeLimits : ℕ → Bool
 placeLimits n = within 1 16 n

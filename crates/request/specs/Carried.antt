@@ -1,5 +1,6 @@
 -- How numbers that were read are carried. A line may say numbers up to 999,999,999, and all but D are stored in 16 bits: a
--- number above 65,535 is carried as 65,535, which is above every limit of those fields too (`carried-within`, `carried-same`).
+-- number above 65,535 is carried as 65,535, which is above every limit of those fields too. (To be shown with the
+-- reader: no limit test sees the difference, and a number within its limits is carried as it is.)
 use mathlib.Core.Path.{_≡_}
 use mathlib.Core.Bool.{Bool, true}
 use mathlib.Core.List.{List, [], _∷_, map}

@@ -31,19 +31,20 @@ nth vs n = getD vs n 0
 abbrev pub plain : Kind → Request
 plain k = record { kind = k; hold = noHold; column = noColumn }
 
-abbrev pub withColumn : Column → Request
-withColumn k = record { kind = ColumnLine; hold = noHold; column = k }
+abbrev pub columnRequest : Column → Request
+columnRequest k = record { kind = ColumnLine; hold = noHold; column = k }
 
-abbrev pub withHold : ℕ → Hold → Request
-withHold n h = record { kind = HoldLine n; hold = h; column = noColumn }
+abbrev pub holdRequest : ℕ → Hold → Request
+holdRequest n h = record { kind = HoldLine n; hold = h; column = noColumn }
 
--- `RULE EDGE FLOOD)` behind `(ship`
+-- `EDGE FLOOD)` behind the rule's word
 unfoldable pub ruled? : (ℕ → Rule) → List Token → Parsed Request
 ruled? rule ts =
     numbers? 2 ts andThen λ vs us.
     close? us andThen λ u ws.
     got (plain (ShipLine (record { rule = rule (nth vs 0); flood = nth vs 1 }))) ws
 
+-- `RULE EDGE FLOOD)` behind `(ship`
 unfoldable pub ship? : List Token → Parsed Request
 ship? ts =
     orElse (word? "new" ts andThen λ u us. ruled? New us) (word? "old" ts andThen λ u us. ruled? Old us)
@@ -56,7 +57,7 @@ column? ts =
     numbers? 10 t2 andThen λ kn t3.
     close? t3 andThen λ u t4.
     close? t4 andThen λ u t5.
-    got (withColumn (record { d = nth vs 0; km = nth vs 1; kn = kn })) t5
+    got (columnRequest (record { d = nth vs 0; km = nth vs 1; kn = kn })) t5
 
 -- `D KG FS)` behind `(load`
 unfoldable pub load? : List Token → Parsed Request
@@ -78,8 +79,8 @@ cell? ts =
     (word? "void" us andThen λ u ws. cellBody 3 (λ v. Void (nth v 0) (nth v 1) (nth v 2)) ws))
 
 -- a part of cells, and a part of three sizes; unused places are filled, so that equal records are equal values
-abbrev pub sectionPart : ℕ → List Cell → Part
-sectionPart length′ cs =
+abbrev pub sectionRecord : ℕ → List Cell → Part
+sectionRecord length′ cs =
     record {
       length = length′;
       breadth = 0;
@@ -89,8 +90,8 @@ sectionPart length′ cs =
       cells = padded 8 noSlot (map (λ c. record { cell = c }) cs);
     }
 
-abbrev pub slackPart : List ℕ → Part
-slackPart vs =
+abbrev pub slackRecord : List ℕ → Part
+slackRecord vs =
     record { length = nth vs 0; breadth = nth vs 1; void = nth vs 2; grain = nth vs 3; count = 0; cells = padded 8 noSlot [] }
 
 -- `(part LENGTH CELL ..)`, with one to eight cells
@@ -100,7 +101,7 @@ section? ts =
     word? "part" t1 andThen λ u t2.
     number? t2 andThen λ v t3.
     several? 7 cell? t3 andThen λ cs t4.
-    got (sectionPart v cs) t4
+    got (sectionRecord v cs) t4
 
 -- `(part LENGTH BREADTH VOID GRAIN)`
 unfoldable pub slack? : List Token → Parsed Part
@@ -109,7 +110,7 @@ slack? ts =
     word? "part" t1 andThen λ u t2.
     numbers? 4 t2 andThen λ vs t3.
     close? t3 andThen λ u t4.
-    got (slackPart vs) t4
+    got (slackRecord vs) t4
 
 -- the parts go by the mode
 abbrev pub part? : Mode → List Token → Parsed Part
@@ -122,7 +123,7 @@ unfoldable pub parts? : ℕ → Mode → List Token → Parsed Request
 parts? n mode ts =
     number? ts andThen λ factor us.
     several? 5 (part? mode) us andThen λ ps ws.
-    got (withHold n (record { head = record { mode = mode; factor = factor; count = length ps }; parts = padded 6 noPart ps })) ws
+    got (holdRequest n (record { head = record { mode = mode; factor = factor; count = length ps }; parts = padded 6 noPart ps })) ws
 
 -- `N MODE ..` behind `(hold`
 unfoldable pub hold? : List Token → Parsed Request

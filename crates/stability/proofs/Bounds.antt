@@ -12,7 +12,7 @@ use Rattle.whole.specs.Sign.{plus, minus}
 use Rattle.whole.proofs.Lists.{and-true, Within, within-true, all-at, tabulate-at, tabulate-length, filled-is}
 use Rattle.whole.proofs.Signs.{sub-reads}
 use Rattle.whole.proofs.Lines.{line-le}
-use Rattle.whole.proofs.Dividing.{ceil-le}
+use Rattle.whole.proofs.Dividing.{ceil-le, floor-le}
 use Rattle.record.specs.declared.Column.{Column}
 use Rattle.record.specs.declared.Load.{Load}
 use Rattle.record.specs.Limits.{displacement, columnLimits, loadLimits}
@@ -87,7 +87,9 @@ module _ (b : Basis) (j : Judgeable b) where
     heeling-le =
         let d = load-bounds (b .load) (j .load) .d .low in
         let w = mul-le-mul (j .weight) (less (angle k)) in
-        ceil-le (1000 * b .weight * (20000 - angle k)) (20000 * b .load .d) 10000000000 (omega arith) (omega (arith, w, mul-le-mul-left 20000 d))
+        let some : 0 < 20000 * b .load .d = omega arith in
+        let top : 1000 * b .weight * (20000 - angle k) ≤ 10000000000 * (20000 * b .load .d) = omega (arith, w, mul-le-mul-left 20000 d) in
+        search (ceil-le, floor-le)
       where
         less : (a : ℕ) → 20000 - a ≤ 20000
         less a = omega arith

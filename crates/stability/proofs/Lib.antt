@@ -1,5 +1,12 @@
 pub mod Tens
 pub mod Bounds
 pub mod Searching
+pub mod Held
 pub mod Peaks
 pub mod Stretches
+pub mod Nearness
+pub mod Areas
+pub mod Between
+pub mod Points
+pub mod Covers
+pub mod Demand3

@@ -1,8 +1,9 @@
 -- Document 01, AREA: the area above zero under the straight lines joining the ten DIFFs, in µm times hundredths of a degree.
-use mathlib.Core.Path.{_≡_, refl}
+use mathlib.Core.Path.{_≡_, refl, ap, _∙_}
 use mathlib.Core.List.{List}
 use Prim.Native.Nat.{ℕ, zero, suc, _+_, _*_, _-_, _/_, _<_, min}
 use native.Mathlib.Nat.{mul-zero, add-zero, zero-div, mul-div-mul-right}
+use native.Mathlib.Omega.{arith}
 use lib.ListN.{getD}
 use lib.IntN.{ℤ, pos}
 use Rattle.whole.specs.Sign.{plus, minus}
@@ -18,10 +19,14 @@ areaAbove t s U N = t * U * U / (2 * s * (U + N))
 pub both-above : (t s u₁ u₂ : ℕ) → 0 < u₁ + u₂ → areaAbove t s (u₁ + u₂) 0 ≡ t * (u₁ + u₂) / (2 * s)
 both-above t s u₁ u₂ p = rw (add-zero (u₁ + u₂)) (mul-div-mul-right (t * (u₁ + u₂)) (2 * s) p)
 
--- one end u above and the other v below zero, whether it falls or rises through zero: a triangle over the part u/(u + v) of
--- the stretch, of height u/s
-pub one-above : (t s u v : ℕ) → areaAbove t s u v ≡ t * u * u / (2 * s * (u + v))
-one-above t s u v = refl
+-- one end u above and the other v below zero, whether it falls or rises through zero: with the crossing at t₁ of the stretch, the
+-- part u/(u + v) of it, a triangle of base t₁ and height u/s
+pub one-above : (t t₁ s u v : ℕ) → 0 < u + v → t₁ * (u + v) ≡ t * u → areaAbove t s u v ≡ t₁ * u / (2 * s)
+one-above t t₁ s u v p e =
+    rw (← e) (ap (λ x. x / (2 * s * (u + v))) (turn t₁ u (u + v)) ∙ mul-div-mul-right (t₁ * u) (2 * s) p)
+  where
+    turn : (a b c : ℕ) → a * c * b ≡ a * b * c
+    turn a b c = omega arith
 
 -- both ends below zero, or at zero: nothing
 pub none-above : (t s v₁ v₂ : ℕ) → areaAbove t s 0 (v₁ + v₂) ≡ 0

@@ -64,8 +64,11 @@ module _ (s : Ship) (b : Basis) where
   Means ShortBeyond = ShortBeyondMeans
   Means ShortOfArea = exactArea b (verdict .upper) ≺ 429718347 + 12009
 
-  -- the verdict's judgement means what it says; and it is 40 exactly where the exact GM is below 300,000
+  -- The verdict's judgement means what it says; it is 40 exactly where the exact GM is below 300,000; and the heel limit and UPPER are
+  -- angles that lie on the nine stretches (`EveryAngle`), so that what is said of each stretch is said of each angle.
   pub record Demand3 : Type 0 where
+    pub heelWithin : heel ≤ 1200
+    pub upperWithin : verdict .upper ≤ 4000
     pub means : Means (verdict .judgement)
     pub fortyExactly : (verdict .judgement ≡ ShortOfGm) ↔ ExactGMBelow b 300000
 

@@ -28,7 +28,8 @@ exactKG b k = fluidKG b * sine k * (span b * heelDen b)
 abbrev pub exactHeeling : Basis → ℕ → ℕ
 exactHeeling b k = 1000 * b .weight * (20000 - angle k) * (span b * 1000)
 
--- what is taken from KN: with the righting arm exactKN − exactKG, righting less heeling is exactKN − exactTaken
+-- The exact righting arm is (exactKN − exactKG)/den, the exact heeling arm exactHeeling/den. What both take from KN: righting less
+-- heeling is (exactKN − exactTaken)/den.
 abbrev pub exactTaken : Basis → ℕ → ℕ
 exactTaken b k = exactKG b k + exactHeeling b k
 
@@ -37,6 +38,16 @@ pub record OnStretch (i n k : ℕ) : Type 0 where
   pub scale : 0 < k
   pub from : angle i * k ≤ n
   pub to : n ≤ angle (suc i) * k
+
+-- some stretch of the nine holds the angle n/k
+pub record Lies (n k : ℕ) : Type 0 where
+  pub stretch : ℕ
+  pub within : stretch < 9
+  pub on : OnStretch stretch n k
+
+-- every angle up to 40 degrees lies on one of the nine stretches
+abbrev pub EveryAngle : Type 0
+EveryAngle = (n k : ℕ) → 0 < k → n ≤ 4000 * k → Lies n k
 
 -- width i × k times the value at n/k on the straight line of the i-th stretch
 abbrev pub along : (ℕ → ℕ) → (i n k : ℕ) → ℕ
@@ -50,7 +61,7 @@ RightingNotBelow b i n k = along (exactTaken b) i n k ≤ along (exactKN b) i n 
 abbrev pub RightingExceedsLess : Basis → (w i n k : ℕ) → Type 0
 RightingExceedsLess b w i n k = along (exactKN b) i n k < along (exactTaken b) i n k + w * (width i * k * den b)
 
--- the exact GM, times span, is below c
+-- the exact GM, (spanKM − 1,000 × fluidKG × span)/span, is below c: multiplied out by span
 abbrev pub ExactGMBelow : Basis → ℕ → Type 0
 ExactGMBelow b c = spanKM b < 1000 * fluidKG b * span b + c * span b
 

@@ -16,7 +16,7 @@ use Rattle.stability.specs.Angles.{angle, width, heelLimit}
 use Rattle.stability.specs.Arms.{gm, diffs}
 use Rattle.stability.specs.Area.{area}
 
--- how many of the k-th angles from the first on, up to the n-th, lie below x
+-- the greatest k from 1 to n with the k-th angle below x, or 0
 unfoldable pub anglesBelow : (n x : ℕ) → ℕ
 anglesBelow zero x = 0
 anglesBelow (suc n) x = cond (ltb (angle (suc n)) x) (suc n) (anglesBelow n x)
@@ -60,13 +60,13 @@ failsAmong heel up ds (suc n) = failsAmong heel up ds n || failsAt heel up ds n
 abbrev pub failsBeyond : (heel upper : ℕ) → List ℤ → Bool
 failsBeyond heel up ds = failsAmong heel up ds 10 || ltb heel up && isBelow (diffAt ds up)
 
--- the first test that fails
-unfoldable pub judgementOf : (heel upper : ℕ) → ℤ → List ℤ → Judgement
-judgementOf heel up g ds =
-    cond (ltZ g (pos 300000)) ShortOfGm
-    (cond (isBelow (diffAt ds heel)) ShortAtHeel
-    (cond (failsBeyond heel up ds) ShortBeyond
-    (cond (ltb (area ds up) 429718347) ShortOfArea Passed)))
+-- the first test that fails: of GM, of DIFF at the heel limit, at the angles of 42, and of AREA
+unfoldable pub judgedBy : (gm diff : ℤ) → (beyond : Bool) → (area : ℕ) → Judgement
+judgedBy gm diff beyond area =
+    cond (ltZ gm (pos 300000)) ShortOfGm
+    (cond (isBelow diff) ShortAtHeel
+    (cond beyond ShortBeyond
+    (cond (ltb area 429718347) ShortOfArea Passed)))
 
 -- the code of each judgement
 abbrev pub judgementCode : Judgement → ℕ
@@ -79,7 +79,13 @@ judgementCode ShortOfArea = 43
 -- the verdict on figures made from GM and the ten DIFFs, with the DIFF at the heel limit
 abbrev pub verdictFrom : (heel upper : ℕ) → ℤ → List ℤ → Verdict
 verdictFrom heel up g ds =
-    record { judgement = judgementOf heel up g ds; gm = g; diff = diffAt ds heel; upper = up; area = area ds up }
+    record {
+      judgement = judgedBy g (diffAt ds heel) (failsBeyond heel up ds) (area ds up);
+      gm = g;
+      diff = diffAt ds heel;
+      upper = up;
+      area = area ds up;
+    }
 
 unfoldable pub verdictOf : Ship → Basis → Verdict
 verdictOf s b = verdictFrom (heelLimit s) (upper (s .flood) (diffs b)) (gm b) (diffs b)

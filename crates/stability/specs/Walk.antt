@@ -1,10 +1,5 @@
 -- How the program puts DIFF together from the arrays of arms: the same figures, by their parts above and below zero.
 use mathlib.Core.Path.{_≡_}
-use mathlib.Core.Bool.{Bool, cond}
-use lib.Dec.{ltb}
-use lib.Signed.{ltZ}
-use Rattle.stability.specs.declared.Judgement.{Judgement}
-use Rattle.stability.specs.declared.Judgement.the-variants.{Passed, ShortOfGm, ShortAtHeel, ShortBeyond, ShortOfArea}
 use mathlib.Core.List.{List}
 use Prim.Native.Nat.{ℕ, _+_, _^_, _<_, _≤_}
 use lib.ListN.{getD}
@@ -62,9 +57,3 @@ pub record EndBounds (d : ℤ) : Type 0 where
 abbrev pub partArea : (h t : ℕ) (d e : ℤ) → ℕ
 partArea h t d e =
     areaAbove t h (endsAbove h t (plus d) (minus d) (plus e) (minus e)) (endsAbove h t (minus d) (plus d) (minus e) (plus e))
-
--- the first test that fails, from the figures of each
-unfoldable pub judgedBy : (gm diff : ℤ) → Bool → (area : ℕ) → Judgement
-judgedBy gm diff beyond area =
-    cond (ltZ gm (pos 300000)) ShortOfGm
-    (cond (ltZ diff (pos 0)) ShortAtHeel (cond beyond ShortBeyond (cond (ltb area 429718347) ShortOfArea Passed)))

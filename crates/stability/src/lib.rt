@@ -5,15 +5,16 @@ ghost use lib.Dec.{leb, ltb};
 ghost use Prim.Native.Nat.{ℕ, suc, _+_, _*_, _-_, _/_, _<_, _≤_, _^_};
 ghost use lib.ListN.{getD};
 ghost use lib.IntN.{ℤ, pos, subℕ};
+ghost use Rattle.whole.specs.Divide.{ceilDiv};
 ghost use Rattle.whole.specs.Lists.{tabulate};
 ghost use Rattle.whole.specs.Sign.{plus, minus};
 ghost use Rattle.whole.specs.Line.{onLine};
 ghost use Rattle.record.specs.Columns.{held};
 ghost use Rattle.stability.specs.Angles.{angle, sine, heelLimit};
 ghost use Rattle.stability.specs.Arms.{columnsAround, gm, rightingArm, heelingArm, rightingArms, heelingArms, diffs};
-ghost use Rattle.stability.specs.Verdict.{stretchOf, diffAt, peak, upper, isBelow, failsAmong, failsBeyond, verdictFrom, verdictOf};
+ghost use Rattle.stability.specs.Verdict.{stretchOf, diffAt, peak, upper, isBelow, failsAmong, failsBeyond, judgedBy, verdictFrom, verdictOf};
 ghost use Rattle.stability.specs.Demand.{Judgeable};
-ghost use Rattle.stability.specs.Walk.{leftOver, leftOvers, ReachOf, Small, Bounded, EndsFit, EndBounds, partArea, judgedBy};
+ghost use Rattle.stability.specs.Walk.{leftOver, leftOvers, ReachOf, Small, Bounded, EndsFit, EndBounds, partArea};
 ghost use Rattle.stability.specs.Area.{areaAbove, endsAbove, stretchArea, areaOver, plusAt, minusAt, area};
 use record::Column;
 use record::Columns;
@@ -172,6 +173,21 @@ fn gm_of(b: Basis) -> i64
     whole::rounded_down(km, 1000 * t.fluid * t.span, t.span)
 }
 
+// What rights the ship is rounded down, and what heels her is rounded up.
+fn rights(n: u64, d: u64) -> u64
+    requires { ⌜ 0 < d ⌝ }
+    ensures { λ r. ⌜ r ≡ n / d ⌝ }
+{
+    n / d
+}
+
+fn heels(n: u64, d: u64) -> u64
+    requires { ⌜ (0 < d) × (n + d < 2 ^ 64) ⌝ }
+    ensures { λ r. ⌜ r ≡ ceilDiv n d ⌝ }
+{
+    whole::divide_up(n, d)
+}
+
 // The righting arm at the k-th angle: KN rounded down less fluid KG times the sine rounded up.
 fn righting_at(b: Basis, k: usize) -> i64
     requires { ⌜ Judgeable b × (k < 10) ⌝ }
@@ -182,8 +198,8 @@ fn righting_at(b: Basis, k: usize) -> i64
     let t = reach_of(b);
     let a = low.kn;
     let z = high.kn;
-    let kn = arm_over(t.span, t.past, a[k] as u64, z[k] as u64) / t.span;
-    let kg = whole::divide_up(t.fluid * sine_at(k), 1000);
+    let kn = rights(arm_over(t.span, t.past, a[k] as u64, z[k] as u64), t.span);
+    let kg = heels(t.fluid * sine_at(k), 1000);
     whole::difference(kn, kg)
 }
 
@@ -193,7 +209,7 @@ fn heeling_at(b: Basis, k: usize) -> u64
     ensures { λ r. ⌜ (r ≡ heelingArm b k) × (r ≤ 2 ^ 34) ⌝ }
 {
     let load = b.load;
-    whole::divide_up(
+    heels(
         1000 * b.weight * (20000 - angle_at(k)),
         20000 * load.d as u64,
     )

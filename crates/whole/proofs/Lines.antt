@@ -1,15 +1,15 @@
 -- Laws of points on a straight line and of their rounding down.
-use mathlib.Core.Path.{_≡_, refl, ap}
+use mathlib.Core.Path.{_≡_, refl, sym, ap, ap₂, _∙_}
 use mathlib.Core.Logic.{_↔_}
 use Prim.Native.Nat.{ℕ, _+_, _*_, _-_, _/_, _≤_, _<_}
-use native.Mathlib.Nat.{lt-of-not-le, div-eq-of-lt, le-of-lt, le-div-iff-mul-le, div-lt-iff-lt-mul, mul-pos, mul-le-mul-right, mul-le-mul-left}
+use native.Mathlib.Nat.{lt-of-not-le, div-eq-of-lt, le-of-lt, le-div-iff-mul-le, div-lt-iff-lt-mul, mul-pos, mul-le-mul-right, mul-le-mul-left, mul-comm, mul-sub, mul-div-cancel, mul-add-div-right}
 use native.Mathlib.Decide.{decLe}
 use native.Mathlib.Omega.{arith}
 use lib.IntN.{subℕ}
 use Rattle.whole.specs.Divide.{ceilDiv}
 use Rattle.whole.specs.Sign.{plus, minus}
 use Rattle.whole.specs.Line.{onLine, roundDown}
-use Rattle.whole.proofs.Signs.{sub-reads}
+use Rattle.whole.proofs.Signs.{sub-reads, sub-eq}
 
 -- a point lies no higher than the higher end
 pub line-le : (h t x y m : ℕ) → t ≤ h → x ≤ m → y ≤ m → onLine h t x y ≤ m * h
@@ -73,3 +73,18 @@ module _ (p m h : ℕ) (ph : 0 < h) where
 
       from : p < m + c * h → plus (roundDown p m h) < c
       from k = rw rounded-plus (div-lt-iff-lt-mul {k = h} {x = p - m} {y = c} ph .1 (omega (arith, ch)))
+
+-- a difference of whole multiples is not rounded
+pub rounded-whole : (a m h : ℕ) → 0 < h → roundDown (a * h) (m * h) h ≡ subℕ a m
+rounded-whole a m h p =
+    ap₂ subℕ (ap (λ x. x / h) (times a m) ∙ mul-div-cancel (a - m) p) (ap (λ x. ceilDiv x h) (times m a) ∙ up (m - a))
+    ∙ sub-eq (a - m) (m - a) a m (omega arith)
+  where
+    times : (x y : ℕ) → x * h - y * h ≡ (x - y) * h
+    times x y = rw (mul-comm x h, mul-comm y h, mul-comm (x - y) h) (sym (mul-sub h x y))
+
+    small : (h - 1) / h ≡ 0
+    small = div-eq-of-lt (omega arith)
+
+    up : (x : ℕ) → ceilDiv (x * h) h ≡ x
+    up x = mul-add-div-right p x (h - 1) ∙ rw small (omega arith)

@@ -4,7 +4,7 @@ use lib.IntN.{ℤ, subℕ}
 use Rattle.whole.specs.Divide.{ceilDiv}
 use Rattle.whole.specs.Sign.{plus, minus}
 
--- h times the value at t of h on the straight line from x to y
+-- h times the value at t of h, for t up to h, on the straight line from x to y
 abbrev pub onLine : (h t x y : ℕ) → ℕ
 onLine h t x y = x * (h - t) + y * t
 

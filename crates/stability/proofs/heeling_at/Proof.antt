@@ -9,14 +9,14 @@ use borrow.Author.Needs.{needs}
 use Rattle.stability.proofs.heeling_at.Statement.{statement}
 use Rattle.stability.proofs.heeling_at.Tie as tie
 
-mul-divide-up : tie.Need-mul-divide-up
-mul-divide-up c = search needs
+mul-heels : tie.Need-mul-heels
+mul-heels c = search needs
 
 angle-at-requires : tie.Need-angle-at-requires
 angle-at-requires c κs = search needs
 
-sub-divide-up : tie.Need-sub-divide-up
-sub-divide-up c =
+sub-heels : tie.Need-sub-heels
+sub-heels c =
     let s = c .before .before .before in
     let a = angle-le (s .args .k) (s .pre .1) in
     let e = c .angle-at .ensures in
@@ -24,8 +24,8 @@ sub-divide-up c =
     let d = load-bounds (s .args .b .load) (s .pre .0 .load) .d in
     omega arith
 
-mul-divide-up-2 : tie.Need-mul-divide-up-2
-mul-divide-up-2 c =
+mul-heels-2 : tie.Need-mul-heels-2
+mul-heels-2 c =
     let s = c .before .before .before in
     let a = angle-le (s .args .k) (s .pre .1) in
     let e = c .angle-at .ensures in
@@ -33,14 +33,14 @@ mul-divide-up-2 c =
     let d = load-bounds (s .args .b .load) (s .pre .0 .load) .d in
     omega (arith, mul-le-mul (s .pre .0 .weight) w)
 
-cast-divide-up : tie.Need-cast-divide-up
-cast-divide-up c = search needs
+cast-heels : tie.Need-cast-heels
+cast-heels c = search needs
 
-mul-divide-up-3 : tie.Need-mul-divide-up-3
-mul-divide-up-3 c = search needs
+mul-heels-3 : tie.Need-mul-heels-3
+mul-heels-3 c = search needs
 
-divide-up-requires : tie.Need-divide-up-requires
-divide-up-requires c κs =
+heels-requires : tie.Need-heels-requires
+heels-requires c κs =
     let s = c .before .before .before .before in
     let a = angle-le (s .args .k) (s .pre .1) in
     let e = c .before .angle-at .ensures in
@@ -56,18 +56,18 @@ returns c =
     let e = c .before .before .angle-at .ensures in
     let w : 20000 - c .before .before .angle-at .result ≤ 20000 = omega arith in
     let d = load-bounds (s .args .b .load) (s .pre .0 .load) .d in
-    let h : c .divide-up .result ≡ heelingArm (s .args .b) (s .args .k) = rw (c .divide-up .ensures, e) refl in
+    let h : c .heels .result ≡ heelingArm (s .args .b) (s .args .k) = rw (c .heels .ensures, e) refl in
     (h, omega (arith, heeling-le (s .args .b) (s .pre .0) (s .args .k) (s .pre .1)))
 
 pub heeling-at-spec : {M : Type 1} → statement M
 heeling-at-spec =
     tie.close
     (tie.spec
-    mul-divide-up
+    mul-heels
     angle-at-requires
-    sub-divide-up
-    mul-divide-up-2
-    cast-divide-up
-    mul-divide-up-3
-    divide-up-requires
+    sub-heels
+    mul-heels-2
+    cast-heels
+    mul-heels-3
+    heels-requires
     returns)

@@ -1,7 +1,7 @@
 use mathlib.Core.Path.{refl}
 use mir.Facts.{toZ-ofZ}
 use borrow.Author.Tests.{lt-ltb, le-ltb}
-use Rattle.stability.specs.Walk.{judgedBy}
+use Rattle.stability.specs.Verdict.{judgedBy}
 use Rattle.stability.proofs.judgement_of.Statement.{statement}
 use Rattle.stability.proofs.judgement_of.Tie as tie
 

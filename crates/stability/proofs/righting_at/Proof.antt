@@ -1,5 +1,5 @@
 use mathlib.Core.Path.{_≡_, refl, _∙_, ap, ap₂}
-use Prim.Native.Nat.{_/_, _≤_}
+use Prim.Native.Nat.{_≤_}
 use native.Mathlib.Omega.{arith}
 use native.Mathlib.Nat.{mul-le-mul}
 use mir.Facts.{toZ-ofZ}
@@ -43,14 +43,14 @@ arm-over-requires c κs =
     let r = c .before .before .reach-of .ensures in
     (r .within, r .small, omega (arith, value-le (q .low) (j .low) (j .tenLow) (s .args .k) (s .pre .1)), omega (arith, value-le (q .high) (j .high) (j .tenHigh) (s .args .k) (s .pre .1)))
 
-div-kn : tie.Need-div-kn
-div-kn c = search needs
+rights-requires : tie.Need-rights-requires
+rights-requires c κs = search needs
 
 sine-at-requires : tie.Need-sine-at-requires
 sine-at-requires c κs = search needs
 
-mul-divide-up : tie.Need-mul-divide-up
-mul-divide-up c =
+mul-heels : tie.Need-mul-heels
+mul-heels c =
     let s = c .before .before .before .before .before .before .before .before .before in
     let j = s .pre .0 in
     let q = s .args .b in
@@ -59,8 +59,8 @@ mul-divide-up c =
     let si : c .before .sine-at .result ≤ 642788 = omega (arith, c .before .sine-at .ensures, sine-le k (s .pre .1)) in
     omega (arith, mul-le-mul (r .low) si)
 
-divide-up-requires : tie.Need-divide-up-requires
-divide-up-requires c κs =
+heels-requires : tie.Need-heels-requires
+heels-requires c κs =
     let s = c .before .before .before .before .before .before .before .before .before in
     let j = s .pre .0 in
     let q = s .args .b in
@@ -77,8 +77,8 @@ difference-requires c κs =
     let q = s .args .b in
     let k = s .args .k in
     let r = c .before .before .before .before .before .before .before .reach-of .ensures in
-    let kn : c .before .before .before .before .arm-over .result / c .before .before .before .before .before .before .before .reach-of .result .span ≡ knArm q k = rw (c .before .before .before .before .arm-over .ensures .0, r .span, r .past) refl in
-    let kg : c .divide-up .result ≡ kgArm q k = rw (c .divide-up .ensures, r .fluid, c .before .before .sine-at .ensures) refl in
+    let kn : c .before .before .before .rights .result ≡ knArm q k = c .before .before .before .rights .ensures ∙ rw (c .before .before .before .before .arm-over .ensures .0, r .span, r .past) refl in
+    let kg : c .heels .result ≡ kgArm q k = rw (c .heels .ensures, r .fluid, c .before .before .sine-at .ensures) refl in
     omega (arith, kn-le q j k (s .pre .1), kg-le q j k (s .pre .1))
 
 returns : tie.Need-returns
@@ -89,8 +89,8 @@ returns c =
     let q = s .args .b in
     let k = s .args .k in
     let r = c .before .before .before .before .before .before .before .before .reach-of .ensures in
-    let kn : c .before .before .before .before .before .arm-over .result / c .before .before .before .before .before .before .before .before .reach-of .result .span ≡ knArm q k = rw (c .before .before .before .before .before .arm-over .ensures .0, r .span, r .past) refl in
-    let kg : c .before .divide-up .result ≡ kgArm q k = rw (c .before .divide-up .ensures, r .fluid, c .before .before .before .sine-at .ensures) refl in
+    let kn : c .before .before .before .before .rights .result ≡ knArm q k = c .before .before .before .before .rights .ensures ∙ rw (c .before .before .before .before .before .arm-over .ensures .0, r .span, r .past) refl in
+    let kg : c .before .heels .result ≡ kgArm q k = rw (c .before .heels .ensures, r .fluid, c .before .before .before .sine-at .ensures) refl in
     let e = toZ-ofZ (sfits-of (c .difference .ok)) ∙ c .difference .ensures ∙ ap₂ subℕ kn kg in
     let z = sub-reads (knArm q k) (kgArm q k) in
     (e, omega (arith, ap plus e, z .pluses, kn-le q j k (s .pre .1)), omega (arith, ap minus e, z .minuses, kg-le q j k (s .pre .1)))
@@ -107,9 +107,9 @@ righting-at-spec =
     array-read-arm-over-2
     cast-arm-over-2
     arm-over-requires
-    div-kn
+    rights-requires
     sine-at-requires
-    mul-divide-up
-    divide-up-requires
+    mul-heels
+    heels-requires
     difference-requires
     returns)

@@ -6,9 +6,7 @@ use mir.Syntax.{w64}
 use borrow.Author.Needs.{sfits-of}
 use lib.ListN.{length}
 use Rattle.stability.specs.Angles.{angle}
-use Rattle.stability.specs.Area.{area}
-use Rattle.stability.specs.Verdict.{upper, failsBeyond, judgementOf}
-use Rattle.stability.specs.Walk.{judgedBy}
+use Rattle.stability.specs.Verdict.{upper}
 use Rattle.stability.proofs.Tens.{angle-le}
 use Rattle.stability.proofs.Peaks.{peak-is}
 use borrow.Author.Needs.{needs}
@@ -44,16 +42,13 @@ judgement-of-requires : tie.Need-judgement-of-requires
 judgement-of-requires c κs = search needs
 
 returns : tie.Need-returns
-unfolding judgedBy judgementOf
 returns c =
     let s = c .before .before .before .before .before .before .before in
     let ds = s .args .ds in
     let g = toZ-ofZ {w = w64} {z = s .args .gm} (s .fits .gm) in
     let u : c .before .before .before .before .smaller .result ≡ upper (s .args .flood) ds = c .before .before .before .before .smaller .ensures ∙ ap (min (s .args .flood)) (c .before .before .before .before .before .angle-at .ensures ∙ ap angle (c .before .before .before .before .before .before .peak-of .ensures)) in
     let d = toZ-ofZ {w = w64} (sfits-of (c .before .before .before .diff-at .ok)) ∙ c .before .before .before .diff-at .ensures in
-    let a = c .before .before .area-to .ensures ∙ ap (area ds) u in
-    let f = c .before .fails-beyond .ensures ∙ ap (λ n. failsBeyond (s .args .heel) n ds) u in
-    rw (c .judgement-of .ensures, g, d, a, f, u) refl
+    rw (c .judgement-of .ensures, g, d, c .before .before .area-to .ensures, c .before .fails-beyond .ensures, u) refl
 
 pub verdict-from-spec : {M : Type 1} → statement M
 verdict-from-spec =

@@ -1,0 +1,146 @@
+-- At a displacement that a column has, the arms are that column's alone: of the two pairs of neighbours that hold it, either gives the
+-- same. And a displacement is outside all pairs exactly where it lies below the first column or above the last.
+use mathlib.Core.Path.{_≡_, refl, sym, ap, ap₂, fun-ext, _∙_}
+use mathlib.Core.Bool.{true, false, _&&_}
+use mathlib.Core.List.{List, [], _∷_}
+use Prim.Native.Nat.{ℕ, suc, _+_, _*_, _-_, _/_, _≤_, _<_}
+use native.Mathlib.Omega.{arith}
+use native.Mathlib.Nat.{mul-div-cancel, le-of-lt, lt-of-not-le}
+use native.Mathlib.Decide.{decLe}
+use lib.Dec.{leb, ltb}
+use lib.ListN.{length, getD}
+use lib.IntN.{subℕ}
+use borrow.Author.Tests.{le-leb, lt-leb, ltb-true}
+use Rattle.whole.specs.Line.{onLine, roundDown}
+use Rattle.whole.specs.Lists.{tabulate}
+use Rattle.whole.proofs.Lines.{line-start, line-end, rounded-whole}
+use Rattle.whole.proofs.Lists.{and-true}
+use Rattle.record.specs.declared.Column.{Column}
+use Rattle.record.specs.declared.Load.{Load}
+use Rattle.record.specs.Limits.{columnLimits}
+use Rattle.record.specs.Columns.{inOrder, noColumn}
+use Rattle.stability.specs.declared.Basis.{Basis}
+use Rattle.stability.specs.declared.Around.{Around}
+use Rattle.stability.specs.declared.Around.the-variants.{At, Outside}
+use Rattle.stability.specs.Arms.{next, columnsAround, span, past, fluidKG, knArm, kgArm, rightingArm, heelingArm, gm, diff, diffs}
+
+-- ---- the arms of one column
+whole-quotient : (n m h : ℕ) → 0 < h → n ≡ 1000 * (h * m) → n / h ≡ 1000 * m
+whole-quotient n m h p e = ap (λ x. x / h) (e ∙ turn h m) ∙ mul-div-cancel (1000 * m) p
+  where
+    turn : (h m : ℕ) → 1000 * (h * m) ≡ 1000 * m * h
+    turn h m = omega arith
+
+module _ (b : Basis) (p : 0 < span b) (k : ℕ) where
+  pub at-low : past b ≡ 0 → knArm b k ≡ 1000 * getD (b .low .kn) k 0
+  unfolding knArm
+  at-low e = whole-quotient _ (getD (b .low .kn) k 0) (span b) p (ap (λ n. 1000 * n) (ap (λ t. onLine (span b) t (getD (b .low .kn) k 0) (getD (b .high .kn) k 0)) e ∙ line-start (span b) (getD (b .low .kn) k 0) (getD (b .high .kn) k 0)))
+
+  pub at-high : past b ≡ span b → knArm b k ≡ 1000 * getD (b .high .kn) k 0
+  unfolding knArm
+  at-high e = whole-quotient _ (getD (b .high .kn) k 0) (span b) p (ap (λ n. 1000 * n) (ap (λ t. onLine (span b) t (getD (b .low .kn) k 0) (getD (b .high .kn) k 0)) e ∙ line-end (span b) (getD (b .low .kn) k 0) (getD (b .high .kn) k 0)))
+
+module _ (b : Basis) (p : 0 < span b) where
+  column-gm : (m : ℕ) → 1000 * (span b * m) ≡ 1000 * m * span b
+  column-gm m = omega arith
+
+  pub gm-low : past b ≡ 0 → gm b ≡ subℕ (1000 * b .low .km) (1000 * fluidKG b)
+  unfolding gm
+  gm-low e =
+      ap (λ n. roundDown n (1000 * fluidKG b * span b) (span b))
+      (ap (λ n. 1000 * n) (ap (λ t. onLine (span b) t (b .low .km) (b .high .km)) e ∙ line-start (span b) (b .low .km) (b .high .km)) ∙ column-gm (b .low .km))
+      ∙ rounded-whole (1000 * b .low .km) (1000 * fluidKG b) (span b) p
+
+  pub gm-high : past b ≡ span b → gm b ≡ subℕ (1000 * b .high .km) (1000 * fluidKG b)
+  unfolding gm
+  gm-high e =
+      ap (λ n. roundDown n (1000 * fluidKG b * span b) (span b))
+      (ap (λ n. 1000 * n) (ap (λ t. onLine (span b) t (b .low .km) (b .high .km)) e ∙ line-end (span b) (b .low .km) (b .high .km)) ∙ column-gm (b .high .km))
+      ∙ rounded-whole (1000 * b .high .km) (1000 * fluidKG b) (span b) p
+
+-- ---- either pair of neighbours that hold D gives the same GM and the same ten DIFFs
+module _ (b c : Basis) (pb : 0 < span b) (pc : 0 < span c) (shared : b .high ≡ c .low) (load : b .load ≡ c .load) (weight : b .weight ≡ c .weight) (top : past b ≡ span b) (foot : past c ≡ 0) where
+  pub same-gm : gm b ≡ gm c
+  same-gm =
+      gm-high b pb top
+      ∙ ap₂ subℕ (ap (λ (k : Column). 1000 * k .km) shared) (ap (λ (l : Load). 1000 * (l .kg + l .fs)) load)
+      ∙ sym (gm-low c pc foot)
+
+  same-diff : (k : ℕ) → diff b k ≡ diff c k
+  unfolding diff rightingArm kgArm heelingArm
+  same-diff k =
+      rw (at-high b pb k top, at-low c pc k foot, shared, load, weight) refl
+
+  pub same-diffs : diffs b ≡ diffs c
+  same-diffs = ap (tabulate 10) (fun-ext same-diff)
+
+-- ---- 33: below the first column or above the last
+abbrev lastD : List Column → ℕ
+lastD ks = getD ks (length ks - 1) noColumn .d
+
+last-more : (a b : Column) (ks : List Column) → lastD (a ∷ b ∷ ks) ≡ lastD (b ∷ ks)
+last-more a b ks = ap (λ n. getD (a ∷ b ∷ ks) n noColumn .d) (less (length ks))
+  where
+    less : (n : ℕ) → suc (suc n) - 1 ≡ suc (suc n - 1)
+    less n = omega arith
+
+rising : (a b : Column) (ks : List Column) → inOrder (a ∷ b ∷ ks) ≡ true → (a .d < b .d) × (inOrder (b ∷ ks) ≡ true)
+unfolding inOrder
+rising a b ks e =
+    let t = and-true (columnLimits a && ltb (a .d) (b .d)) (inOrder (b ∷ ks)) e in
+    (ltb-true (a .d) (b .d) (and-true (columnLimits a) (ltb (a .d) (b .d)) (t .0) .1), t .1)
+
+first-le : (a : Column) (ks : List Column) → inOrder (a ∷ ks) ≡ true → a .d ≤ lastD (a ∷ ks)
+first-le a [] e = omega arith
+first-le a (b ∷ ks) e =
+    let t = rising a b ks e in
+    omega (arith, t .0, first-le b ks (t .1), last-more a b ks)
+
+next-outside : (x : Around) → next x ≡ Outside → x ≡ Outside
+next-outside (At i) e = let z : _≡_ {A = ℕ} 0 1 = cc in absurd (omega arith)
+next-outside Outside e = refl
+
+-- inside the first pair; or what the rest answers
+module _ (d : ℕ) (a b : Column) (ks : List Column) where
+  skipped : (leb (a .d) d && leb d (b .d)) ≡ false → columnsAround d (a ∷ b ∷ ks) ≡ next (columnsAround d (b ∷ ks))
+  unfolding columnsAround
+  skipped e = rw e refl
+
+  found : (leb (a .d) d && leb d (b .d)) ≡ true → columnsAround d (a ∷ b ∷ ks) ≡ At 0
+  unfolding columnsAround
+  found e = rw e refl
+
+  -- not in the first pair, though not below it: beyond it, and outside the rest
+  apart : a .d ≤ d → columnsAround d (a ∷ b ∷ ks) ≡ Outside → (b .d < d) × (columnsAround d (b ∷ ks) ≡ Outside)
+  apart f o = go (decLe d (b .d))
+    where
+      clash : At 0 ≡ Outside → ⊥
+      clash z = let y : _≡_ {A = ℕ} 0 1 = cc in omega arith
+
+      go : Dec (d ≤ b .d) → (b .d < d) × (columnsAround d (b ∷ ks) ≡ Outside)
+      go (yes h) = absurd (clash (sym (found (rw (le-leb (a .d) d f, le-leb d (b .d) h) refl)) ∙ o))
+      go (no h) =
+          let w : b .d < d = lt-of-not-le h in
+          (w, next-outside _ (sym (skipped (rw (le-leb (a .d) d f, lt-leb d (b .d) w) refl)) ∙ o))
+
+pub below-outside : (d : ℕ) (a : Column) (ks : List Column) → inOrder (a ∷ ks) ≡ true → d < a .d → columnsAround d (a ∷ ks) ≡ Outside
+unfolding columnsAround
+below-outside d a [] e h = refl
+below-outside d a (b ∷ ks) e h =
+    let t = rising a b ks e in
+    rw (lt-leb (a .d) d h) (ap next (below-outside d b ks (t .1) (omega (arith, t .0))))
+
+pub above-outside : (d : ℕ) (a : Column) (ks : List Column) → inOrder (a ∷ ks) ≡ true → lastD (a ∷ ks) < d → columnsAround d (a ∷ ks) ≡ Outside
+unfolding columnsAround
+above-outside d a [] e h = refl
+above-outside d a (b ∷ ks) e h =
+    let t = rising a b ks e in
+    let l : lastD (b ∷ ks) < d = omega (arith, last-more a b ks) in
+    let m : b .d < d = omega (arith, first-le b ks (t .1)) in
+    rw (le-leb (a .d) d (omega (arith, t .0)), lt-leb d (b .d) m) (ap next (above-outside d b ks (t .1) l))
+
+pub between-found : (d : ℕ) (a b : Column) (ks : List Column) → a .d ≤ d → d ≤ lastD (a ∷ b ∷ ks) → columnsAround d (a ∷ b ∷ ks) ≡ Outside → ⊥
+between-found d a b [] f t o = omega (arith, apart d a b [] f o .0, last-more a b [])
+between-found d a b (c ∷ ks) f t o =
+    let p = apart d a b (c ∷ ks) f o in
+    between-found d b c ks (le-of-lt (p .0)) (omega (arith, last-more a b (c ∷ ks))) (p .1)
