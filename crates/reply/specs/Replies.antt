@@ -1,27 +1,40 @@
 -- Document 01, Codes: the replies. One newline, byte 10, follows each.
 use mathlib.Core.List.{List, [], _∷_, _++_}
-use Prim.Native.Nat.{ℕ}
+use Prim.Native.Nat.{ℕ, _<_, _^_}
 use lib.IntN.{ℤ}
 use Rattle.whole.specs.Bytes.{bytes}
+use Rattle.whole.specs.Sign.{plus, minus}
 use Rattle.reply.specs.Written.{decimal, figure, twoDigits}
 
 -- the closing bracket and the newline
 abbrev pub tail : List ℕ
 tail = bytes ")\n"
 
+-- a head, a code and the tail
+abbrev pub codedReply : List ℕ → ℕ → List ℕ
+codedReply head code = (head ++ twoDigits code) ++ tail
+
 -- `(answer CC)`
-unfoldable pub answerReply : ℕ → List ℕ
-answerReply code = (bytes "(answer " ++ twoDigits code) ++ tail
+abbrev pub answerReply : ℕ → List ℕ
+answerReply code = codedReply (bytes "(answer ") code
 
 -- `(verdict CC)`, for judge with 30 to 34
-unfoldable pub refusalReply : ℕ → List ℕ
-refusalReply code = (bytes "(verdict " ++ twoDigits code) ++ tail
+abbrev pub refusalReply : ℕ → List ℕ
+refusalReply code = codedReply (bytes "(verdict ") code
+
+-- a space and a figure; a space and a figure that is not below zero
+abbrev pub field : ℤ → List ℕ
+field z = 32 ∷ figure z
+
+abbrev pub count : ℕ → List ℕ
+count n = 32 ∷ decimal n
 
 -- `(verdict CC GM DIFF UPPER AREA)`, for judge with 00 or 40 to 43
 unfoldable pub verdictReply : (code : ℕ) (gm diff : ℤ) (upper area : ℕ) → List ℕ
 verdictReply code gm diff upper area =
-    (((((((((bytes "(verdict " ++ twoDigits code) ++ bytes " ") ++ figure gm) ++ bytes " ") ++ figure diff) ++ bytes " ")
-    ++ decimal upper)
-    ++ bytes " ")
-    ++ decimal area)
-    ++ tail
+    (((((bytes "(verdict " ++ twoDigits code) ++ field gm) ++ field diff) ++ count upper) ++ count area) ++ tail
+
+-- a figure of at most twelve digits: then every reply fits 96 bytes
+pub record Short (z : ℤ) : Type 0 where
+  pub above : plus z < 10 ^ 12
+  pub below : minus z < 10 ^ 12

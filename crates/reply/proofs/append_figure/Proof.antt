@@ -1,0 +1,92 @@
+use mathlib.Core.Path.{sym, _∙_, ap}
+use mathlib.Core.List.{[], _∷_}
+use native.Mathlib.Omega.{arith}
+use mir.Facts.{toZ-ofZ}
+use mir.Syntax.{w64}
+use lib.ListN.{length}
+use lib.Signed.{ltZ}
+use lib.IntN.{ℤ, pos}
+use Rattle.whole.specs.Sign.{plus, minus}
+use Rattle.reply.specs.Written.{decimal}
+use Rattle.reply.proofs.Writing.{into-into, figure-above, figure-below}
+use borrow.Author.Needs.{needs}
+use Rattle.reply.proofs.append_figure.Statement.{statement}
+use Rattle.reply.proofs.append_figure.Tie as tie
+
+is-below-requires : tie.Need-is-below-requires
+is-below-requires c κs = search needs
+
+slice-aggregate-append : tie.Need-slice-aggregate-append
+slice-aggregate-append c = search needs
+
+append-requires : tie.Need-append-requires
+append-requires c κs =
+    let s = c .before .before .before .before .before in
+    let z = s .args .z in
+    let t = ap (λ (y : ℤ). ltZ y (pos 0)) (sym (toZ-ofZ {w = w64} {z = z} (s .fits .z))) ∙ sym (c .before .before .before .is-below .ensures) ∙ c .before .before .if1 .taken in
+    omega (arith, ap length (figure-below z t), s .pre)
+
+below-zero-requires : tie.Need-below-zero-requires
+below-zero-requires c κs = search needs
+
+append-decimal-requires : tie.Need-append-decimal-requires
+append-decimal-requires c κs =
+    let s = c .before .before .before .before .before .before .before .before .before .before in
+    let z = s .args .z in
+    let t = ap (λ (y : ℤ). ltZ y (pos 0)) (sym (toZ-ofZ {w = w64} {z = z} (s .fits .z))) ∙ sym (c .before .before .before .before .before .before .before .before .is-below .ensures) ∙ c .before .before .before .before .before .before .before .if1 .taken in
+    let m = c .below-zero .ensures ∙ ap minus (toZ-ofZ {w = w64} {z = z} (s .fits .z)) in
+    omega (arith, ap length (figure-below z t), ap (λ n. length (decimal n)) m, s .pre)
+
+above-zero-requires : tie.Need-above-zero-requires
+above-zero-requires c κs = search needs
+
+append-decimal-requires-2 : tie.Need-append-decimal-requires-2
+append-decimal-requires-2 c κs =
+    let s = c .before .before .before .before .before in
+    let z = s .args .z in
+    let t = ap (λ (y : ℤ). ltZ y (pos 0)) (sym (toZ-ofZ {w = w64} {z = z} (s .fits .z))) ∙ sym (c .before .before .before .is-below .ensures) ∙ c .before .before .if1 .left in
+    let m = c .above-zero .ensures ∙ ap plus (toZ-ofZ {w = w64} {z = z} (s .fits .z)) in
+    omega (arith, ap length (figure-above z t), ap (λ n. length (decimal n)) m, s .pre)
+
+same-length : tie.Need-same-length
+same-length c = search needs
+
+returns : tie.Need-returns
+returns c =
+    let s = c .before .before .before .before .before .before .before .before .before .before .before .before .before in
+    let z = s .args .z in
+    let t = ap (λ (y : ℤ). ltZ y (pos 0)) (sym (toZ-ofZ {w = w64} {z = z} (s .fits .z))) ∙ sym (c .before .before .before .before .before .before .before .before .before .before .before .is-below .ensures) ∙ c .before .before .before .before .before .before .before .before .before .before .if1 .taken in
+    let m = c .before .before .before .below-zero .ensures ∙ ap minus (toZ-ofZ {w = w64} {z = z} (s .fits .z)) in
+    let e = figure-below z t in
+    let g = c .before .before .before .before .before .before .before .append .ensures in
+    let h = rw m at (c .before .before .append-decimal .ensures) in
+    let i = into-into (s .args .at) (45 ∷ []) (decimal (minus z)) (s .args .out .now) (c .before .before .before .before .before .before .before .append .result) (omega arith) (omega (arith, ap length e, s .pre)) in
+    (rw e (omega (arith, h .0)), h .1 ∙ rw (e, g .1) i)
+
+same-length-2 : tie.Need-same-length-2
+same-length-2 c = search needs
+
+returns-2 : tie.Need-returns-2
+returns-2 c =
+    let s = c .before .before .before .before .before .before .before .before in
+    let z = s .args .z in
+    let t = ap (λ (y : ℤ). ltZ y (pos 0)) (sym (toZ-ofZ {w = w64} {z = z} (s .fits .z))) ∙ sym (c .before .before .before .before .before .before .is-below .ensures) ∙ c .before .before .before .before .before .if1 .left in
+    let m = c .before .before .before .above-zero .ensures ∙ ap plus (toZ-ofZ {w = w64} {z = z} (s .fits .z)) in
+    let h = rw m at (c .before .before .append-decimal2 .ensures) in
+    rw (figure-above z t) h
+
+pub append-figure-spec : {M : Type 1} → statement M
+append-figure-spec =
+    tie.close
+    (tie.spec
+    is-below-requires
+    slice-aggregate-append
+    append-requires
+    below-zero-requires
+    append-decimal-requires
+    above-zero-requires
+    append-decimal-requires-2
+    same-length
+    returns
+    same-length-2
+    returns-2)
