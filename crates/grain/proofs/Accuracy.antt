@@ -5,11 +5,12 @@ use mathlib.Core.Bool.{Bool, true, false, cond}
 use mathlib.Core.List.{List, [], _∷_}
 use Prim.Native.Nat.{ℕ, _+_, _*_, _/_, _≤_, _<_}
 use native.Mathlib.Omega.{arith}
-use native.Mathlib.Nat.{mul-le-mul, mul-le-mul-left, mul-lt-mul-of-pos-left, lt-of-not-le, div-mul-le-self, lt-div-mul-add, mul-pos}
+use native.Mathlib.Nat.{mul-le-mul, mul-le-mul-left, mul-lt-mul-of-pos-left, lt-of-not-le, div-mul-le-self, lt-div-mul-add, mul-pos, div-lt-iff-lt-mul}
 use native.Mathlib.Decide.{decLe}
 use lib.Dec.{T}
 use lib.ListN.{length}
-use Rattle.whole.specs.Root.{IsRoot}
+use Rattle.whole.specs.Root.{IsRoot, RootAt}
+use Rattle.whole.proofs.Roots.{Rooted, every-root}
 use Rattle.whole.specs.Lists.{all, sumOf}
 use Rattle.record.specs.declared.Cell.{Cell}
 use Rattle.grain.specs.Depth.{cellArea}
@@ -114,3 +115,23 @@ section-accuracy (c ∷ cs) w k pk rs b =
       neverBelow = below k _ _ _ _ _ e (t .low);
       neverFar = far k (length (c ∷ cs)) (sumOf cellArea (c ∷ cs)) _ _ _ _ _ pk e (omega (arith, t .high, ap (λ x. k * x) n, ap (λ x. k * x) area));
     }
+
+-- ---- the whole parts that the statement speaks of exist at every scale
+pub record Parted (k : ℕ) (ks : List Kept) : Type 0 where
+  pub wholes : List ℕ
+  pub are : Bases k ks wholes
+
+-- the root of n/d at the scale k is the whole root of n·k²/d
+root-at : (n d k : ℕ) → 0 < d → (r : Rooted (n * (k * k) / d)) → RootAt n d k (r .whole)
+root-at n d k p r =
+    record {
+      low = omega (arith, mul-le-mul-left d (r .is .low), div-mul-le-self (n * (k * k)) d);
+      high = omega (arith, div-lt-iff-lt-mul {k = d} {x = n * (k * k)} {y = (r .whole + 1) * (r .whole + 1)} p .0 (r .is .high));
+    }
+
+pub every-scale : (k : ℕ) (ks : List Kept) → Parted k ks
+every-scale k [] = record { wholes = []; are = tt }
+every-scale k (a ∷ ks) =
+    let rest = every-scale k ks in
+    let r = every-root (200000 * a .area * (k * k) / 26795) in
+    record { wholes = r .whole ∷ rest .wholes; are = (λ t. root-at (200000 * a .area) 26795 k (omega arith) r, rest .are) }

@@ -18,7 +18,10 @@ use Rattle.record.specs.Limits.{cellWidth, cellLimits, cellsOf, sectionLimits, 
 use Rattle.grain.specs.declared.Shifted.the-variants.{Moment, NoFit}
 use Rattle.grain.specs.Section.{Kept, keptFrom, keptOf, highMoment, sectionMoment}
 use Rattle.grain.specs.Slack.{slackMoment}
-use Rattle.grain.specs.Sum.{partSection, partMoment, percentage, holdMoment, weightMoment, totalWeight}
+use Rattle.grain.specs.Sum.{partSection, partMoment, percentage, holdMoment, weightMoment, holdFits, weighedOf, totalWeight}
+use Rattle.grain.specs.declared.Weighed.the-variants.{Weight, Limits, NoFit as NoFit′}
+use lib.Dec.{eqb}
+use borrow.Author.Tests.{eqb-true}
 use Rattle.grain.proofs.Sections.{areas-le, kept-sum}
 use Rattle.grain.proofs.Walks.{part-within}
 
@@ -106,7 +109,7 @@ pub hold-le : (h : Hold) → HoldWithin h → holdMoment h ≤ 2 ^ 34
 unfolding holdMoment
 hold-le h w = omega (arith, mul-le-mul (parts-le h w) (percentage-le (h .head .mode)))
 
--- a weight moment is below 2 to the 36th kg·m
+-- a weight moment is at most 2 to the 36th kg·m
 pub weight-le : (h : Hold) → HoldWithin h → weightMoment h ≤ 2 ^ 36
 unfolding weightMoment
 weight-le h w = ceil-le (10000 * holdMoment h) (h .head .factor) (2 ^ 36) (omega (arith, w .factor .low)) (omega (arith, hold-le h w, mul-le-mul-left (2 ^ 36) (w .factor .low)))
@@ -129,3 +132,21 @@ total-changed hs i h d p = sum-set weightMoment hs i h d p
 pub nothing-weighs : (h : Hold) → h .head .count ≡ 0 → weightMoment h ≡ 0
 unfolding weightMoment holdMoment sumOf
 nothing-weighs h e = rw (e, zero-mul) (ceil-zero (h .head .factor))
+
+-- W is 0 without holds
+pub nothing-held : (hs : List Hold) → all (λ h. eqb (h .head .count) 0) hs ≡ true → totalWeight hs ≡ 0
+unfolding totalWeight sumOf all
+nothing-held [] e = refl
+nothing-held (h ∷ hs) e =
+    let t = and-true (eqb (h .head .count) 0) (all (λ h. eqb (h .head .count) 0) hs) e in
+    omega (arith, nothing-weighs h (eqb-true (h .head .count) 0 (t .0)), nothing-held hs (t .1))
+
+-- a weight moment that was answered is the hold's, and fits
+pub weighed-is : (h : Hold) (w : ℕ) → weighedOf h ≡ Weight w → (w ≡ weightMoment h) × (w ≤ 2 ^ 36)
+unfolding weighedOf
+weighed-is h w e = go (holdLimits h) (holdFits h) refl e
+  where
+    go : (a b : Bool) → holdLimits h ≡ a → cond a (cond b (Weight (weightMoment h)) NoFit′) Limits ≡ Weight w → (w ≡ weightMoment h) × (w ≤ 2 ^ 36)
+    go true true l q = let k : w ≡ weightMoment h = cc in (k, omega (arith, weight-le h (hold-within h l)))
+    go true false l q = let z : _≡_ {A = ℕ} 0 1 = cc in absurd (omega arith)
+    go false b l q = let z : _≡_ {A = ℕ} 0 1 = cc in absurd (omega arith)

@@ -71,7 +71,8 @@ module _ (b : Basis) (j : Judgeable b) where
   fluid-le = load-bounds (b .load) (j .load) .fluid
 
   module _ (k : ℕ) (h : k < 10) where
-    -- KN is at most 50,000 mm, fluid KG × sine at most 38,568 mm, the heeling arm at most 10 m for each tonne of 100
+    -- KN is at most 50,000 mm, fluid KG × sine at most 38,568 mm, the heeling arm at most 10,000 m: 1,000,000,000 kg·m
+    -- over 100 tonnes
     pub kn-le : knArm b k ≤ 50000000
     unfolding knArm
     kn-le =

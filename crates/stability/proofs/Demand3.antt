@@ -1,13 +1,13 @@
 -- Demand 3: the verdict's code means what it says of the exact values, and the figures shown lie near them.
-use mathlib.Core.Path.{_≡_, refl, subst}
+use mathlib.Core.Path.{_≡_, refl, sym, ap, subst, _∙_}
 use mathlib.Core.Bool.{Bool, true, false, cond, _&&_, _||_}
 use mathlib.Core.List.{List}
-use mathlib.Core.Logic.{⊎-elim}
+use mathlib.Core.Logic.{_⊎_, inl, inr, ⊎-elim}
 use Prim.Native.Nat.{ℕ, zero, suc, _+_, _*_, _-_, _≤_, _<_}
 use native.Mathlib.Nat.{le-of-mul-le-mul-right, mul-le-mul-right, lt-of-lt-of-le, le-trans, le-of-lt, lt-of-not-le, mul-pos, mul-one, eq-or-lt-of-le}
 use native.Mathlib.Decide.{decLe}
 use native.Mathlib.Omega.{arith}
-use lib.Dec.{leb, ltb}
+use lib.Dec.{leb, ltb, eqb}
 use lib.ListN.{getD}
 use lib.Signed.{ltZ}
 use lib.IntN.{ℤ, pos, negsuc}
@@ -24,9 +24,9 @@ use Rattle.stability.specs.declared.Judgement.the-variants.{Passed, Shor
 use Rattle.stability.specs.Angles.{angle, width}
 use Rattle.stability.specs.Arms.{span, fluidKG, spanKM, gm, diffs}
 use Rattle.stability.specs.Area.{plusAt, minusAt, area}
-use Rattle.stability.specs.Verdict.{diffAt, upper, isBelow, failsAt, failsAmong, failsBeyond, judgedBy, verdictOf}
+use Rattle.stability.specs.Verdict.{diffAt, upper, isBelow, failsAt, failsAmong, failsBeyond, judgedBy, judgementCode, verdictOf}
 use Rattle.stability.specs.Exact.{den, exactKN, exactTaken, OnStretch, along, RightingNotBelow, RightingExceedsLess, ExactGMBelow, exactArea}
-use Rattle.stability.specs.Demand.{Judgeable, heel, verdict, PassedMeans, ShortAtHeelMeans, ShortBeyondMeans, Means, Demand3, Margins}
+use Rattle.stability.specs.Demand.{Judgeable, heel, verdict, code, PassedMeans, ShortAtHeelMeans, SomeAngleFails, oneOfTen, atUpper, ShortBeyondMeans, OneOfFive, is00, is40, is41, is42, is43, Demand3, Margins}
 use Rattle.stability.proofs.Tens.{angle-rises, width-some, Stretch}
 use Rattle.stability.proofs.Nearness.{Close, span-some, den-some, close}
 use Rattle.stability.proofs.Areas.{Near, area-low, area-high}
@@ -45,6 +45,41 @@ among-false heel up ds zero e k h = absurd (omega arith)
 among-false heel up ds (suc n) e k h =
     let t = or-false (failsAmong heel up ds n) (failsAt heel up ds n) e in
     ⊎-elim (λ (f : k ≡ n). rw f (t .1)) (λ (l : k < n). among-false heel up ds n (t .0) k l) (eq-or-lt-of-le {n = k} {m = n} (omega arith))
+
+-- two judgements with one code are one
+decoded : ℕ → Judgement
+decoded n =
+    cond (eqb n 40) ShortOfGm (cond (eqb n 41) ShortAtHeel (cond (eqb n 42) ShortBeyond (cond (eqb n 43) ShortOfArea Passed)))
+
+decodes : (v : Judgement) → decoded (judgementCode v) ≡ v
+unfolding decoded
+decodes Passed = refl
+decodes ShortOfGm = refl
+decodes ShortAtHeel = refl
+decodes ShortBeyond = refl
+decodes ShortOfArea = refl
+
+same-code : (v w : Judgement) → judgementCode v ≡ judgementCode w → v ≡ w
+same-code v w e = sym (decodes v) ∙ ap decoded e ∙ decodes w
+
+-- one of the first n that fails
+record Failing (heel up : ℕ) (ds : List ℤ) (n : ℕ) : Type 0 where
+  place : ℕ
+  within : place < n
+  fails : failsAt heel up ds place ≡ true
+
+or-either : (a b : Bool) → (a || b) ≡ true → (a ≡ true) ⊎ (b ≡ true)
+or-either true b e = inl refl
+or-either false b e = inr e
+
+failing : (heel up : ℕ) (ds : List ℤ) (n : ℕ) → failsAmong heel up ds n ≡ true → Failing heel up ds n
+unfolding failsAmong
+failing heel up ds zero e = let z : _≡_ {A = ℕ} 0 1 = cc in absurd (omega arith)
+failing heel up ds (suc n) e =
+    ⊎-elim
+    (λ (f : failsAmong heel up ds n ≡ true). let r = failing heel up ds n f in record { place = r .place; within = omega (arith, r .within); fails = r .fails })
+    (λ (f : failsAt heel up ds n ≡ true). record { place = n; within = omega arith; fails = f })
+    (or-either (failsAmong heel up ds n) (failsAt heel up ds n) e)
 
 -- a number below c, c being above zero, by its part above zero
 test-true : (z : ℤ) (c : ℕ) → 0 < c → ltZ z (pos c) ≡ true → plus z < c
@@ -202,12 +237,21 @@ module _ (s : Ship) (b : Basis) (jd : Judgeable b) where
         near = λ i h o. righting-near b jd i (heel s b) h o (le-of-lt (diff-below (diffs b) (heel s b) i (on-whole i (heel s b) h o) e));
       }
 
+  named : failsBeyond (heel s b) (upper (s .flood) (diffs b)) (diffs b) ≡ true → SomeAngleFails s b
+  unfolding verdictOf
+  named e =
+      let u = upper (s .flood) (diffs b) in
+      ⊎-elim
+      (λ (f : failsAmong (heel s b) u (diffs b) 10 ≡ true). let r = failing (heel s b) u (diffs b) 10 f in oneOfTen (r .place) (r .within) (r .fails))
+      (λ (f : (ltb (heel s b) u && isBelow (diffAt (diffs b) u)) ≡ true). let t = and-true (ltb (heel s b) u) (isBelow (diffAt (diffs b) u)) f in atUpper (ltb-true (heel s b) u (t .0)) (t .1))
+      (or-either (failsAmong (heel s b) u (diffs b) 10) (ltb (heel s b) u && isBelow (diffAt (diffs b) u)) e)
+
   short-beyond : failsBeyond (heel s b) (upper (s .flood) (diffs b)) (diffs b) ≡ true → ShortBeyondMeans s b
   unfolding verdictOf
   short-beyond e =
       let u = upper (s .flood) (diffs b) in
       record {
-        fails = e;
+        fails = named e;
         nearTen =
             λ j i hj h f o.
             let c = and-true (ltb (heel s b) (angle j) && leb (angle j) u) (isBelow (getD (diffs b) j (pos 0))) f .1 in
@@ -222,14 +266,22 @@ module _ (s : Ship) (b : Basis) (jd : Judgeable b) where
       let k : area (diffs b) u + 12009 ≤ 429718347 + 12009 = omega (arith, ltb-true (area (diffs b) u) 429718347 e) in
       lt-of-lt-of-le (area-never-far b jd u) (mul-le-mul-right (exactArea b u .den) k)
 
-  cases : (t₁ t₂ t₃ t₄ : Bool) → ltZ (gm b) (pos 300000) ≡ t₁ → isBelow (diffAt (diffs b) (heel s b)) ≡ t₂ → failsBeyond (heel s b) (upper (s .flood) (diffs b)) (diffs b) ≡ t₃ → ltb (area (diffs b) (upper (s .flood) (diffs b))) 429718347 ≡ t₄ → Means s b (cond t₁ ShortOfGm (cond t₂ ShortAtHeel (cond t₃ ShortBeyond (cond t₄ ShortOfArea Passed))))
+  -- what each judgement says
+  abbrev Means : Judgement → Type 0
+  Means Passed = PassedMeans s b
+  Means ShortOfGm = ExactGMBelow b 300000
+  Means ShortAtHeel = ShortAtHeelMeans s b
+  Means ShortBeyond = ShortBeyondMeans s b
+  Means ShortOfArea = exactArea b (verdict s b .upper) ≺ 429718347 + 12009
+
+  cases : (t₁ t₂ t₃ t₄ : Bool) → ltZ (gm b) (pos 300000) ≡ t₁ → isBelow (diffAt (diffs b) (heel s b)) ≡ t₂ → failsBeyond (heel s b) (upper (s .flood) (diffs b)) (diffs b) ≡ t₃ → ltb (area (diffs b) (upper (s .flood) (diffs b))) 429718347 ≡ t₄ → Means (cond t₁ ShortOfGm (cond t₂ ShortAtHeel (cond t₃ ShortBeyond (cond t₄ ShortOfArea Passed))))
   cases true t₂ t₃ t₄ e₁ e₂ e₃ e₄ = gm-below b jd e₁
   cases false true t₃ t₄ e₁ e₂ e₃ e₄ = short-at-heel e₂
   cases false false true t₄ e₁ e₂ e₃ e₄ = short-beyond e₃
   cases false false false true e₁ e₂ e₃ e₄ = short-of-area e₄
   cases false false false false e₁ e₂ e₃ e₄ = passed e₁ e₂ e₃ e₄
 
-  means : Means s b (verdict s b .judgement)
+  means : Means (verdict s b .judgement)
   unfolding verdictOf judgedBy
   means =
       cases (ltZ (gm b) (pos 300000)) (isBelow (diffAt (diffs b) (heel s b))) (failsBeyond (heel s b) (upper (s .flood) (diffs b)) (diffs b)) (ltb (area (diffs b) (upper (s .flood) (diffs b))) 429718347)
@@ -240,14 +292,29 @@ module _ (s : Ship) (b : Basis) (jd : Judgeable b) where
   forty-to true e k = rw e
   forty-to false e k = absurd (gm-not-below b jd e k)
 
--- (the ship's limits are not needed: it holds for every FLOOD and EDGE)
+  -- by the code: each number is that of one judgement
+  one-of : (v : Judgement) → verdict s b .judgement ≡ v → OneOfFive s b
+  one-of Passed e = is00 (ap judgementCode e)
+  one-of ShortOfGm e = is40 (ap judgementCode e)
+  one-of ShortAtHeel e = is41 (ap judgementCode e)
+  one-of ShortBeyond e = is42 (ap judgementCode e)
+  one-of ShortOfArea e = is43 (ap judgementCode e)
+
+  at : (v w : Judgement) → verdict s b .judgement ≡ v → code s b ≡ judgementCode w → Means w
+  at v w e c = subst Means (same-code v w (sym (ap judgementCode e) ∙ c)) (subst Means e means)
+
+-- (nothing is asked of the ship: it holds for every FLOOD and EDGE)
 pub demand3 : (s : Ship) (b : Basis) → Judgeable b → Demand3 s b
 demand3 s b jd =
     record {
       heelWithin = heel-le s b;
       upperWithin = upper-le s b;
-      means = means s b jd;
-      fortyExactly = ((λ e. subst (λ (v : Judgement). Means s b v) e (means s b jd)), forty-to s b jd (ltZ (gm b) (pos 300000)) refl);
+      oneOf = one-of s b jd (verdict s b .judgement) refl;
+      fortyExactly = (at s b jd (verdict s b .judgement) ShortOfGm refl, λ k. ap judgementCode (forty-to s b jd (ltZ (gm b) (pos 300000)) refl k));
+      at00 = at s b jd (verdict s b .judgement) Passed refl;
+      at41 = at s b jd (verdict s b .judgement) ShortAtHeel refl;
+      at42 = at s b jd (verdict s b .judgement) ShortBeyond refl;
+      at43 = at s b jd (verdict s b .judgement) ShortOfArea refl;
     }
 
 -- ---- the margins

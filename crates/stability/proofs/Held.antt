@@ -1,7 +1,8 @@
 -- At a displacement that a column has, the arms are that column's alone: of the two pairs of neighbours that hold it, either gives the
--- same. And a displacement is outside all pairs exactly where it lies below the first column or above the last.
-use mathlib.Core.Path.{_≡_, refl, sym, ap, ap₂, fun-ext, _∙_}
-use mathlib.Core.Bool.{true, false, _&&_}
+-- same. And of two or more columns in their order, a displacement is outside all pairs exactly where it lies below the first or above
+-- the last.
+use mathlib.Core.Path.{_≡_, refl, sym, ap, ap₂, fun-ext, subst, _∙_}
+use mathlib.Core.Bool.{Bool, true, false, _&&_}
 use mathlib.Core.List.{List, [], _∷_}
 use Prim.Native.Nat.{ℕ, suc, _+_, _*_, _-_, _/_, _≤_, _<_}
 use native.Mathlib.Omega.{arith}
@@ -10,7 +11,7 @@ use native.Mathlib.Decide.{decLe}
 use lib.Dec.{leb, ltb}
 use lib.ListN.{length, getD}
 use lib.IntN.{subℕ}
-use borrow.Author.Tests.{le-leb, lt-leb, ltb-true}
+use borrow.Author.Tests.{le-leb, lt-leb, leb-true, ltb-true}
 use Rattle.whole.specs.Line.{onLine, roundDown}
 use Rattle.whole.specs.Lists.{tabulate}
 use Rattle.whole.proofs.Lines.{line-start, line-end, rounded-whole}
@@ -19,7 +20,9 @@ use Rattle.record.specs.declared.Column.{Column}
 use Rattle.record.specs.declared.Load.{Load}
 use Rattle.record.specs.Limits.{columnLimits}
 use Rattle.record.specs.Columns.{inOrder, noColumn}
+use Rattle.record.specs.declared.Ship.{Ship}
 use Rattle.stability.specs.declared.Basis.{Basis}
+use Rattle.stability.specs.Verdict.{verdictOf}
 use Rattle.stability.specs.declared.Around.{Around}
 use Rattle.stability.specs.declared.Around.the-variants.{At, Outside}
 use Rattle.stability.specs.Arms.{next, columnsAround, span, past, fluidKG, knArm, kgArm, rightingArm, heelingArm, gm, diff, diffs}
@@ -74,8 +77,12 @@ module _ (b c : Basis) (pb : 0 < span b) (pc : 0 < span c) (shared : b .high ≡
   pub same-diffs : diffs b ≡ diffs c
   same-diffs = ap (tabulate 10) (fun-ext same-diff)
 
+  pub same-verdict : (s : Ship) → verdictOf s b ≡ verdictOf s c
+  unfolding verdictOf
+  same-verdict s = rw (same-diffs, same-gm) refl
+
 -- ---- 33: below the first column or above the last
-abbrev lastD : List Column → ℕ
+abbrev pub lastD : List Column → ℕ
 lastD ks = getD ks (length ks - 1) noColumn .d
 
 last-more : (a b : Column) (ks : List Column) → lastD (a ∷ b ∷ ks) ≡ lastD (b ∷ ks)
@@ -144,3 +151,60 @@ between-found d a b [] f t o = omega (arith, apart d a b [] f o .0, last-more a 
 between-found d a b (c ∷ ks) f t o =
     let p = apart d a b (c ∷ ks) f o in
     between-found d b c ks (le-of-lt (p .0)) (omega (arith, last-more a b (c ∷ ks))) (p .1)
+
+-- ---- what a place found says: the two columns there stand around D
+moved-at : (x : Around) (i : ℕ) → next x ≡ At i → (j : ℕ) × (i ≡ suc j) × (x ≡ At j)
+moved-at (At j) i e = (j, cc, refl)
+moved-at Outside i e = let z : _≡_ {A = ℕ} 0 1 = cc in absurd (omega arith)
+
+pub record Standing (d : ℕ) (ks : List Column) (i : ℕ) : Type 0 where
+  pub place : i + 1 < length ks
+  pub low : getD ks i noColumn .d ≤ d
+  pub high : d ≤ getD ks (i + 1) noColumn .d
+  pub lowLimits : columnLimits (getD ks i noColumn) ≡ true
+  pub highLimits : columnLimits (getD ks (i + 1) noColumn) ≡ true
+  pub apart : getD ks i noColumn .d < getD ks (i + 1) noColumn .d
+
+one-more : (d : ℕ) (a : Column) (ks : List Column) (j : ℕ) → Standing d ks j → Standing d (a ∷ ks) (suc j)
+one-more d a ks j r =
+    let q : suc j + 1 ≡ suc (j + 1) = omega arith in
+    record {
+      place = omega (arith, r .place);
+      low = r .low;
+      high = rw q (r .high);
+      lowLimits = r .lowLimits;
+      highLimits = rw q (r .highLimits);
+      apart = rw q (r .apart);
+    }
+
+limits-first : (a : Column) (ks : List Column) → inOrder (a ∷ ks) ≡ true → columnLimits a ≡ true
+unfolding inOrder
+limits-first a [] e = e
+limits-first a (b ∷ ks) e =
+    and-true (columnLimits a) (ltb (a .d) (b .d)) (and-true (columnLimits a && ltb (a .d) (b .d)) (inOrder (b ∷ ks)) e .0) .0
+
+pub around-at : (d : ℕ) (ks : List Column) (i : ℕ) → inOrder ks ≡ true → columnsAround d ks ≡ At i → Standing d ks i
+unfolding columnsAround
+around-at d [] i o e = let z : _≡_ {A = ℕ} 0 1 = cc in absurd (omega arith)
+around-at d (a ∷ []) i o e = let z : _≡_ {A = ℕ} 0 1 = cc in absurd (omega arith)
+around-at d (a ∷ b ∷ ks) i o e =
+    go (leb (a .d) d && leb d (b .d)) refl (λ j f. around-at d (b ∷ ks) j (rising a b ks o .1) f)
+  where
+    go : (t : Bool) → (leb (a .d) d && leb d (b .d)) ≡ t → ((j : ℕ) → columnsAround d (b ∷ ks) ≡ At j → Standing d (b ∷ ks) j) → Standing d (a ∷ b ∷ ks) i
+    go true f more =
+        let z : At 0 ≡ At i = sym (found d a b ks f) ∙ e in
+        let q : 0 ≡ i = cc in
+        let t = and-true (leb (a .d) d) (leb d (b .d)) f in
+        let r = rising a b ks o in
+        subst (λ (n : ℕ). Standing d (a ∷ b ∷ ks) n) q
+        (record {
+          place = omega arith;
+          low = leb-true (a .d) d (t .0);
+          high = leb-true d (b .d) (t .1);
+          lowLimits = limits-first a (b ∷ ks) o;
+          highLimits = limits-first b ks (r .1);
+          apart = r .0;
+        })
+    go false f more =
+        let m = moved-at (columnsAround d (b ∷ ks)) i (sym (skipped d a b ks f) ∙ e) in
+        subst (λ (n : ℕ). Standing d (a ∷ b ∷ ks) n) (sym (m .1)) (one-more d a (b ∷ ks) (m .0) (more (m .0) (m .2)))

@@ -1,5 +1,5 @@
 -- Document 01, AREA: the area above zero under the straight lines joining the ten DIFFs, in µm times hundredths of a degree.
-use mathlib.Core.Path.{_≡_, refl, ap, _∙_}
+use mathlib.Core.Path.{_≡_, refl, sym, ap, ap₂, _∙_}
 use mathlib.Core.List.{List}
 use Prim.Native.Nat.{ℕ, zero, suc, _+_, _*_, _-_, _/_, _<_, min}
 use native.Mathlib.Nat.{mul-zero, add-zero, zero-div, mul-div-mul-right}
@@ -19,14 +19,19 @@ areaAbove t s U N = t * U * U / (2 * s * (U + N))
 pub both-above : (t s u₁ u₂ : ℕ) → 0 < u₁ + u₂ → areaAbove t s (u₁ + u₂) 0 ≡ t * (u₁ + u₂) / (2 * s)
 both-above t s u₁ u₂ p = rw (add-zero (u₁ + u₂)) (mul-div-mul-right (t * (u₁ + u₂)) (2 * s) p)
 
--- one end u above and the other v below zero, whether it falls or rises through zero: with the crossing at t₁ of the stretch, the
--- part u/(u + v) of it, a triangle of base t₁ and height u/s
-pub one-above : (t t₁ s u v : ℕ) → 0 < u + v → t₁ * (u + v) ≡ t * u → areaAbove t s u v ≡ t₁ * u / (2 * s)
-one-above t t₁ s u v p e =
-    rw (← e) (ap (λ x. x / (2 * s * (u + v))) (turn t₁ u (u + v)) ∙ mul-div-mul-right (t₁ * u) (2 * s) p)
+-- one end u above and the other v below zero, whether it falls or rises through zero: with the crossing at t₁/c of the stretch, which
+-- is its part u/(u + v), a triangle of base t₁/c and height u/s
+pub one-above : (t t₁ c s u v : ℕ) → 0 < u + v → 0 < c → t₁ * (u + v) ≡ c * (t * u) → areaAbove t s u v ≡ t₁ * u / (2 * s * c)
+one-above t t₁ c s u v p q e =
+    sym (mul-div-mul-right (t * u * u) (2 * s * (u + v)) q)
+    ∙ ap₂ _/_ (scaled t₁ c t u (u + v) e) (swapped s c (u + v))
+    ∙ mul-div-mul-right (t₁ * u) (2 * s * c) p
   where
-    turn : (a b c : ℕ) → a * c * b ≡ a * b * c
-    turn a b c = omega arith
+    scaled : (t₁ c t u w : ℕ) → t₁ * w ≡ c * (t * u) → t * u * u * c ≡ t₁ * u * w
+    scaled t₁ c t u w e = omega (arith, ap (λ x. x * u) e)
+
+    swapped : (s c w : ℕ) → 2 * s * w * c ≡ 2 * s * c * w
+    swapped s c w = omega arith
 
 -- both ends below zero, or at zero: nothing
 pub none-above : (t s v₁ v₂ : ℕ) → areaAbove t s 0 (v₁ + v₂) ≡ 0

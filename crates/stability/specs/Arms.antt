@@ -25,6 +25,11 @@ columnsAround d [] = Outside
 columnsAround d (a ∷ []) = Outside
 columnsAround d (a ∷ b ∷ ks) = cond (leb (a .d) d && leb d (b .d)) (At 0) (next (columnsAround d (b ∷ ks)))
 
+-- the paper's code for each answer
+abbrev pub aroundCode : Around → ℕ
+aroundCode (At i) = 0
+aroundCode Outside = 33
+
 -- D₂ − D₁ and D − D₁
 abbrev pub span : Basis → ℕ
 span b = b .high .d - b .low .d

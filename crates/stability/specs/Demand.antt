@@ -1,5 +1,5 @@
 -- Demand 3: what each code says of the exact values, and how near the figures shown are to them. Said of the two columns around D,
--- a load, a weight moment and a ship within their limits.
+-- a load and a weight moment within their limits, and of every ship.
 use mathlib.Core.Path.{_≡_}
 use mathlib.Core.Bool.{Bool, true, false}
 use mathlib.Core.Logic.{_↔_}
@@ -8,14 +8,14 @@ use lib.ListN.{length}
 use Rattle.whole.specs.Frac.{_≼_, _≺_}
 use Rattle.whole.specs.Sign.{plus, minus}
 use Rattle.record.specs.declared.Ship.{Ship}
-use Rattle.record.specs.Limits.{shipLimits, loadLimits, columnLimits}
+use Rattle.record.specs.Limits.{loadLimits, columnLimits}
 use Rattle.stability.specs.declared.Basis.{Basis}
 use Rattle.stability.specs.declared.Judgement.{Judgement}
 use Rattle.stability.specs.declared.Judgement.the-variants.{Passed, ShortOfGm, ShortAtHeel, ShortBeyond, ShortOfArea}
 use Rattle.stability.specs.declared.Verdict.{Verdict}
 use Rattle.stability.specs.Angles.{angle, width, heelLimit}
 use Rattle.stability.specs.Arms.{diffs}
-use Rattle.stability.specs.Verdict.{diffAt, isBelow, failsAt, failsBeyond, verdictOf}
+use Rattle.stability.specs.Verdict.{diffAt, isBelow, failsAt, judgementCode, verdictOf}
 use Rattle.stability.specs.Exact.{den, exactKN, exactTaken, along, OnStretch, RightingNotBelow, RightingExceedsLess, ExactGMBelow, exactArea}
 
 -- two columns around D, a load and a weight moment within their limits
@@ -50,27 +50,40 @@ module _ (s : Ship) (b : Basis) where
     pub fails : isBelow (diffAt (diffs b) heel) ≡ true
     pub near : (i : ℕ) → i < 9 → OnStretch i heel 1 → RightingExceedsLess b 3 i heel 1
 
+  -- some angle that 42 names fails: one of the ten, above the heel limit and not above UPPER, or UPPER itself above the heel limit
+  pub data SomeAngleFails : Type 0 where
+    oneOfTen : (j : ℕ) → j < 10 → failsAt heel (verdict .upper) (diffs b) j ≡ true → SomeAngleFails
+    atUpper : heel < verdict .upper → isBelow (diffAt (diffs b) (verdict .upper)) ≡ true → SomeAngleFails
+
   -- 42: some angle that 42 names fails, and at every one that fails the same bound holds
   pub record ShortBeyondMeans : Type 0 where
-    pub fails : failsBeyond heel (verdict .upper) (diffs b) ≡ true
+    pub fails : SomeAngleFails
     pub nearTen : (j i : ℕ) → j < 10 → i < 9 → failsAt heel (verdict .upper) (diffs b) j ≡ true → OnStretch i (angle j) 1 → RightingExceedsLess b 3 i (angle j) 1
     pub nearUpper : (i : ℕ) → i < 9 → heel < verdict .upper → isBelow (diffAt (diffs b) (verdict .upper)) ≡ true → OnStretch i (verdict .upper) 1 → RightingExceedsLess b 3 i (verdict .upper) 1
 
-  -- what each judgement says
-  abbrev pub Means : Judgement → Type 0
-  Means Passed = PassedMeans
-  Means ShortOfGm = ExactGMBelow b 300000
-  Means ShortAtHeel = ShortAtHeelMeans
-  Means ShortBeyond = ShortBeyondMeans
-  Means ShortOfArea = exactArea b (verdict .upper) ≺ 429718347 + 12009
+  -- the verdict's code
+  abbrev pub code : ℕ
+  code = judgementCode (verdict .judgement)
 
-  -- The verdict's judgement means what it says; it is 40 exactly where the exact GM is below 300,000; and the heel limit and UPPER are
-  -- angles that lie on the nine stretches (`EveryAngle`), so that what is said of each stretch is said of each angle.
+  -- the code is one of five
+  pub data OneOfFive : Type 0 where
+    is00 : code ≡ 0 → OneOfFive
+    is40 : code ≡ 40 → OneOfFive
+    is41 : code ≡ 41 → OneOfFive
+    is42 : code ≡ 42 → OneOfFive
+    is43 : code ≡ 43 → OneOfFive
+
+  -- Demand 3. The heel limit and UPPER are angles that lie on the nine stretches (`EveryAngle`), so that what is said of each stretch
+  -- is said of each angle.
   pub record Demand3 : Type 0 where
     pub heelWithin : heel ≤ 1200
     pub upperWithin : verdict .upper ≤ 4000
-    pub means : Means (verdict .judgement)
-    pub fortyExactly : (verdict .judgement ≡ ShortOfGm) ↔ ExactGMBelow b 300000
+    pub oneOf : OneOfFive
+    pub fortyExactly : (code ≡ 40) ↔ ExactGMBelow b 300000
+    pub at00 : code ≡ 0 → PassedMeans
+    pub at41 : code ≡ 41 → ShortAtHeelMeans
+    pub at42 : code ≡ 42 → ShortBeyondMeans
+    pub at43 : code ≡ 43 → exactArea b (verdict .upper) ≺ 429718347 + 12009
 
   -- For the margin page, of every verdict: AREA ≤ exact area < AREA + 12,009; and DIFF at the heel limit ≤ the exact difference there,
   -- which is less than DIFF + 3 at one of the ten angles and less than DIFF + 4 between them. The exact difference at the heel

@@ -175,7 +175,7 @@ fn gm_of(b: Basis) -> i64
 
 // What rights the ship is rounded down, and what heels her is rounded up.
 fn rights(n: u64, d: u64) -> u64
-    requires { ⌜ 0 < d ⌝ }
+    requires { ⌜ (0 < d) × (n ≤ 2 ^ 45) ⌝ }
     ensures { λ r. ⌜ r ≡ n / d ⌝ }
 {
     n / d
@@ -199,7 +199,7 @@ fn righting_at(b: Basis, k: usize) -> i64
     let a = low.kn;
     let z = high.kn;
     let kn = rights(arm_over(t.span, t.past, a[k] as u64, z[k] as u64), t.span);
-    let kg = heels(t.fluid * sine_at(k), 1000);
+    let kg = whole::divide_up(t.fluid * sine_at(k), 1000);
     whole::difference(kn, kg)
 }
 

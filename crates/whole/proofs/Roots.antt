@@ -65,3 +65,15 @@ pub root-even : (x r : ℕ) → x < 2 ^ 64 → r ≡ root (x / 4) → x < (2 * r
 root-even x r h e k =
     let d : nextDigit x r ≡ 2 * r = rw (lt-leb ((2 * r + 1) * (2 * r + 1)) x k) in
     sym d ∙ ap (nextDigit x) e ∙ root-next x h
+
+-- every number has a whole root
+pub record Rooted (x : ℕ) : Type 0 where
+  pub whole : ℕ
+  pub is : IsRoot x whole
+
+pub every-root : (x : ℕ) → Rooted x
+every-root x = record { whole = rootDigits x x; is = digits-are x x (below x) }
+  where
+    below : (x : ℕ) → x < 4 ^ x
+    below zero = omega arith
+    below (suc x) = omega (arith, below x, pow-suc 4 x)

@@ -49,8 +49,8 @@ rights-requires c κs = search needs
 sine-at-requires : tie.Need-sine-at-requires
 sine-at-requires c κs = search needs
 
-mul-heels : tie.Need-mul-heels
-mul-heels c =
+mul-divide-up : tie.Need-mul-divide-up
+mul-divide-up c =
     let s = c .before .before .before .before .before .before .before .before .before in
     let j = s .pre .0 in
     let q = s .args .b in
@@ -59,8 +59,8 @@ mul-heels c =
     let si : c .before .sine-at .result ≤ 642788 = omega (arith, c .before .sine-at .ensures, sine-le k (s .pre .1)) in
     omega (arith, mul-le-mul (r .low) si)
 
-heels-requires : tie.Need-heels-requires
-heels-requires c κs =
+divide-up-requires : tie.Need-divide-up-requires
+divide-up-requires c κs =
     let s = c .before .before .before .before .before .before .before .before .before in
     let j = s .pre .0 in
     let q = s .args .b in
@@ -78,7 +78,7 @@ difference-requires c κs =
     let k = s .args .k in
     let r = c .before .before .before .before .before .before .before .reach-of .ensures in
     let kn : c .before .before .before .rights .result ≡ knArm q k = c .before .before .before .rights .ensures ∙ rw (c .before .before .before .before .arm-over .ensures .0, r .span, r .past) refl in
-    let kg : c .heels .result ≡ kgArm q k = rw (c .heels .ensures, r .fluid, c .before .before .sine-at .ensures) refl in
+    let kg : c .divide-up .result ≡ kgArm q k = rw (c .divide-up .ensures, r .fluid, c .before .before .sine-at .ensures) refl in
     omega (arith, kn-le q j k (s .pre .1), kg-le q j k (s .pre .1))
 
 returns : tie.Need-returns
@@ -90,7 +90,7 @@ returns c =
     let k = s .args .k in
     let r = c .before .before .before .before .before .before .before .before .reach-of .ensures in
     let kn : c .before .before .before .before .rights .result ≡ knArm q k = c .before .before .before .before .rights .ensures ∙ rw (c .before .before .before .before .before .arm-over .ensures .0, r .span, r .past) refl in
-    let kg : c .before .heels .result ≡ kgArm q k = rw (c .before .heels .ensures, r .fluid, c .before .before .before .sine-at .ensures) refl in
+    let kg : c .before .divide-up .result ≡ kgArm q k = rw (c .before .divide-up .ensures, r .fluid, c .before .before .before .sine-at .ensures) refl in
     let e = toZ-ofZ (sfits-of (c .difference .ok)) ∙ c .difference .ensures ∙ ap₂ subℕ kn kg in
     let z = sub-reads (knArm q k) (kgArm q k) in
     (e, omega (arith, ap plus e, z .pluses, kn-le q j k (s .pre .1)), omega (arith, ap minus e, z .minuses, kg-le q j k (s .pre .1)))
@@ -109,7 +109,7 @@ righting-at-spec =
     arm-over-requires
     rights-requires
     sine-at-requires
-    mul-heels
-    heels-requires
+    mul-divide-up
+    divide-up-requires
     difference-requires
     returns)
