@@ -152,7 +152,7 @@ fn base_of(area: u64) -> u64
 
 // n / d, rounded down: what is taken away is never too much, so that the moment left is never too small.
 fn cut(n: u64, d: u64) -> u64
-    requires { ⌜ 1 < d ⌝ }
+    requires { ⌜ (1 < d) × (n < 2 ^ 63) × (d < 2 ^ 32) ⌝ }
     ensures { λ r. ⌜ r ≡ n / d ⌝ }
 {
     n / d

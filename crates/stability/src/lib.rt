@@ -175,7 +175,7 @@ fn gm_of(b: Basis) -> i64
 
 // What rights the ship is rounded down, and what heels her is rounded up.
 fn rights(n: u64, d: u64) -> u64
-    requires { ⌜ (0 < d) × (n ≤ 2 ^ 45) ⌝ }
+    requires { ⌜ (0 < d) × (n + d < 2 ^ 64) ⌝ }
     ensures { λ r. ⌜ r ≡ n / d ⌝ }
 {
     n / d

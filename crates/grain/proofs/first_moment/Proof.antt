@@ -23,7 +23,7 @@ mul-cut : tie.Need-mul-cut
 mul-cut c = let s = c .before .before in let r : c .base-of .result ≤ 40000 = omega (arith, c .base-of .ensures, base-small (s .args .area) (s .pre .1)) in omega (arith, mul-le-mul (s .pre .1) r)
 
 cut-requires : tie.Need-cut-requires
-cut-requires c κs = search needs
+cut-requires c κs = let s = c .before .before in let r : c .base-of .result ≤ 40000 = omega (arith, c .base-of .ensures, base-small (s .args .area) (s .pre .1)) in omega (arith, mul-le-mul (s .pre .1) r)
 
 mul-cut-2 : tie.Need-mul-cut-2
 mul-cut-2 c = let s = c .before in let ww = mul-le-mul (s .pre .0) (s .pre .0) in omega (arith, ww, mul-le-mul (s .pre .0) ww, mul-le-mul (s .pre .1) (s .pre .0))
@@ -44,7 +44,7 @@ sub-cut : tie.Need-sub-cut
 sub-cut c = omega (arith, trapezium-taken (c .before .args .w) (c .before .args .area) (c .if1 .left))
 
 cut-requires-2 : tie.Need-cut-requires-2
-cut-requires-2 c κs = search needs
+cut-requires-2 c κs = let s = c .before in omega (arith, mul-le-mul (s .pre .1) (s .pre .0))
 
 returns : tie.Need-returns
 returns c = let s = c .before .before .before in let r : c .before .base-of .result ≤ 40000 = omega (arith, c .before .base-of .ensures, base-small (s .args .area) (s .pre .1)) in (cc (first-triangle (s .args .w) (s .args .area) (c .before .before .if1 .taken)), omega (arith, c .cut .ensures, mul-le-mul (s .pre .1) r))
