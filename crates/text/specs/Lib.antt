@@ -1,2 +1,3 @@
 pub mod Token
 pub mod Line
+pub mod Places

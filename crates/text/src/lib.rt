@@ -1,4 +1,12 @@
 // A line's bytes, brackets, runs and numbers: codes 10 to 13.
+ghost use mathlib.Core.Path.{_≡_};
+ghost use mathlib.Core.Bool.{_&&_, _||_};
+ghost use Prim.Native.Nat.{ℕ, _+_, _≤_, _<_};
+ghost use lib.ListN.{length, getD, take, drop};
+ghost use Rattle.whole.specs.Lists.{all, within};
+ghost use Rattle.text.specs.Token.{isDigit, inRun, numberOf, tokens};
+ghost use Rattle.text.specs.Line.{allowed, oneForm, numberIfDigit, soundToken, readingOf};
+ghost use Rattle.text.specs.Places.{spaces, closeAt, runLength, digitsFrom};
 
 // What the tests of a whole line find, in their order.
 pub enum Reading {
@@ -13,4 +21,236 @@ pub enum Reading {
 pub enum Number {
     Is(u32),
     Bad,
+}
+
+// The place behind a closing bracket.
+pub enum Closed {
+    At(usize),
+    Nowhere,
+}
+
+fn both(a: bool, b: bool) -> bool
+    ensures { λ r. ⌜ r ≡ (a && b) ⌝ }
+{
+    if a { b } else { false }
+}
+
+fn either(a: bool, b: bool) -> bool
+    ensures { λ r. ⌜ r ≡ (a || b) ⌝ }
+{
+    if a { true } else { b }
+}
+
+// Whether lo <= b <= hi.
+fn is_within(lo: u8, hi: u8, b: u8) -> bool
+    ensures { λ r. ⌜ r ≡ within lo hi b ⌝ }
+{
+    both(lo <= b, b <= hi)
+}
+
+fn is_digit(b: u8) -> bool
+    ensures { λ r. ⌜ r ≡ isDigit b ⌝ }
+{
+    is_within(48, 57, b)
+}
+
+// Whether a byte is a letter or a digit.
+pub fn in_run(b: u8) -> bool
+    ensures { λ r. ⌜ r ≡ inRun b ⌝ }
+{
+    either(is_within(97, 122, b), is_digit(b))
+}
+
+// Whether a byte may stand in a line.
+fn is_allowed(b: u8) -> bool
+    ensures { λ r. ⌜ r ≡ allowed b ⌝ }
+{
+    either(either(either(in_run(b), b == 32), b == 40), b == 41)
+}
+
+// 11: whether every byte may.
+fn all_allowed(s: &[u8]) -> bool
+    ensures { λ r. ⌜ r ≡ all allowed (now (s .entry)) ⌝ }
+{
+    let mut i = 0;
+    while i < s.len() {
+        if !is_allowed(s[i]) {
+            return false;
+        }
+        i += 1;
+    }
+    true
+}
+
+// The place behind the spaces that stand at `at`.
+pub fn skip(s: &[u8], at: usize) -> usize
+    requires { ⌜ at ≤ length (now s) ⌝ }
+    ensures { λ r. ⌜ (r ≡ at + spaces (drop at (now (s .entry)))) × (r ≤ length (now (s .entry))) ⌝ }
+{
+    let mut i = at;
+    while i < s.len() {
+        if s[i] != 32 {
+            return i;
+        }
+        i += 1;
+    }
+    i
+}
+
+// The place behind the form whose opening bracket stands just before `at`, where `left` more may be opened inside it.
+fn close_at(s: &[u8], at: usize, left: usize) -> Closed
+    requires { ⌜ at ≤ length (now s) ⌝ }
+    ensures { λ r. ⌜ r ≡ closeAt (drop at (now (s .entry))) at left 0 ⌝ }
+{
+    let mut i = at;
+    while i < s.len() {
+        let b = s[i];
+        if b == 41 {
+            return Closed::At(i + 1);
+        }
+        if b == 40 {
+            if left == 0 {
+                return Closed::Nowhere;
+            }
+            let Closed::At(j) = close_at(s, i + 1, left - 1) else {
+                return Closed::Nowhere;
+            };
+            i = j;
+        } else {
+            i += 1;
+        }
+    }
+    Closed::Nowhere
+}
+
+// 12: whether a line is one closed form, with only spaces outside it and at most four brackets open.
+fn one_form(s: &[u8]) -> bool
+    ensures { λ r. ⌜ r ≡ oneForm 4 (now (s .entry)) ⌝ }
+{
+    let at = skip(s, 0);
+    if s.len() <= at {
+        return false;
+    }
+    if s[at] != 40 {
+        return false;
+    }
+    let Closed::At(j) = close_at(s, at + 1, 3) else {
+        return false;
+    };
+    skip(s, j) == s.len()
+}
+
+// The number that digits say, a zero in front or not.
+fn digits_of(run: &[u8]) -> Number
+    ensures { λ r. ⌜ r ≡ digitsFrom 0 (now (run .entry)) ⌝ }
+{
+    let mut v: u64 = 0;
+    let mut i = 0;
+    while i < run.len() {
+        let b = run[i];
+        if !is_digit(b) {
+            return Number::Bad;
+        }
+        let w = 10 * v + (b - 48) as u64;
+        if 999999999 < w {
+            return Number::Bad;
+        }
+        v = w;
+        i += 1;
+    }
+    Number::Is(v as u32)
+}
+
+// The number that a run says.
+pub fn number_of(run: &[u8]) -> Number
+    ensures { λ r. ⌜ r ≡ numberOf (now (run .entry)) ⌝ }
+{
+    if run.len() == 0 {
+        return Number::Bad;
+    }
+    if run.len() == 1 {
+        return digits_of(run);
+    }
+    if run[0] == 48 {
+        return Number::Bad;
+    }
+    digits_of(run)
+}
+
+// 13: whether a run that starts with a digit is a number.
+fn is_sound(run: &[u8]) -> bool
+    ensures { λ r. ⌜ r ≡ numberIfDigit (now (run .entry)) ⌝ }
+{
+    if run.len() == 0 {
+        return true;
+    }
+    if !is_digit(run[0]) {
+        return true;
+    }
+    let Number::Is(_) = number_of(run) else {
+        return false;
+    };
+    true
+}
+
+// The place behind the run that starts at `at`.
+fn run_end(s: &[u8], at: usize) -> usize
+    requires { ⌜ at ≤ length (now s) ⌝ }
+    ensures { λ r. ⌜ (r ≡ at + runLength (drop at (now (s .entry)))) × (r ≤ length (now (s .entry))) ⌝ }
+{
+    let mut i = at;
+    while i < s.len() {
+        if !in_run(s[i]) {
+            return i;
+        }
+        i += 1;
+    }
+    i
+}
+
+// The run that starts at `at`: the very bytes of the line.
+pub fn run_at<'a>(s: &'a [u8], at: usize) -> &'a [u8]
+    requires { ⌜ at ≤ length (now s) ⌝ }
+    ensures { λ r. ⌜ now r ≡ take (runLength (drop at (now (s .entry)))) (drop at (now (s .entry))) ⌝ }
+{
+    let e = run_end(s, at);
+    &s[at..e]
+}
+
+// 13: whether every run of a line that starts with a digit is a number.
+fn all_sound(s: &[u8]) -> bool
+    ensures { λ r. ⌜ r ≡ all soundToken (tokens (now (s .entry))) ⌝ }
+{
+    let mut i = 0;
+    while i < s.len() {
+        if in_run(s[i]) {
+            let run = run_at(s, i);
+            if !is_sound(run) {
+                return false;
+            }
+            i += run.len();
+        } else {
+            i += 1;
+        }
+    }
+    true
+}
+
+// The first test that a line fails, each made over the entire line before the next.
+pub fn reading_of(line: &[u8]) -> Reading
+    ensures { λ r. ⌜ r ≡ readingOf (now (line .entry)) ⌝ }
+{
+    if 2000 < line.len() {
+        return Reading::TooLong;
+    }
+    if !all_allowed(line) {
+        return Reading::BadByte;
+    }
+    if !one_form(line) {
+        return Reading::NotOneForm;
+    }
+    if !all_sound(line) {
+        return Reading::BadNumber;
+    }
+    Reading::Sound
 }

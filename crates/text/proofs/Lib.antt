@@ -1,0 +1,5 @@
+pub mod Closing
+pub mod Walks
+pub mod Numbers
+pub mod Runs
+pub mod Order

@@ -1,0 +1,74 @@
+use borrow.Author.Needs.{needs}
+use mathlib.Core.Path.{_≡_, sym, _∙_}
+use native.Mathlib.Omega.{arith}
+use Prim.Native.Nat.{_≤_, _-_}
+use lib.ListN.{length, drop}
+use borrow.Author.Tests.{not-true, not-false}
+use Rattle.text.proofs.Runs.{sound, sound-end, sound-other, passes}
+use Rattle.text.proofs.all_sound.Statement.{statement}
+use Rattle.text.proofs.all_sound.Tie as tie
+
+abbrev Inv-loop : tie.InvT-loop
+Inv-loop s i₀ i = (i ≤ length s) × (sound (drop i s) ≡ sound s)
+
+abbrev μ-loop : tie.MeasureT-loop
+μ-loop s i₀ i = length s - i
+
+loop-holds : tie.Need-loop-holds Inv-loop μ-loop
+loop-holds c = search needs
+
+shared-slice-read-in-run : tie.Need-shared-slice-read-in-run Inv-loop μ-loop
+shared-slice-read-in-run c = search needs
+
+in-run-requires : tie.Need-in-run-requires Inv-loop μ-loop
+in-run-requires c κs = search needs
+
+run-at-requires : tie.Need-run-at-requires Inv-loop μ-loop
+run-at-requires c κs = search needs
+
+is-sound-requires : tie.Need-is-sound-requires Inv-loop μ-loop
+is-sound-requires c κs = search needs
+
+returns : tie.Need-returns Inv-loop μ-loop
+returns c = let h = c .before .before .before .before .before .before .before in let s = h .before .before .args .s .now in let i = h .loop .i in let w = passes s i (c .before .before .run-at .result .now) (search needs) (sym (c .before .before .before .before .in-run .ensures) ∙ c .before .before .before .if1 .taken) (c .before .before .run-at .ensures) in sym (w .bad (sym (c .before .is-sound .ensures) ∙ not-true _ (c .if2 .taken))) ∙ h .loop .inv .1
+
+add-i : tie.Need-add-i Inv-loop μ-loop
+add-i c = let h = c .before .before .before .before .before .before .before in let s = h .before .before .args .s .now in let i = h .loop .i in let w = passes s i (c .before .before .run-at .result .now) (search needs) (sym (c .before .before .before .before .in-run .ensures) ∙ c .before .before .before .if1 .taken) (c .before .before .run-at .ensures) in search needs
+
+loop-less : tie.Need-loop-less Inv-loop μ-loop
+loop-less c = let h = c .before .before .before .before .before .before .before in let s = h .before .before .args .s .now in let i = h .loop .i in let w = passes s i (c .before .before .run-at .result .now) (search needs) (sym (c .before .before .before .before .in-run .ensures) ∙ c .before .before .before .if1 .taken) (c .before .before .run-at .ensures) in search needs
+
+loop-again : tie.Need-loop-again Inv-loop μ-loop
+loop-again c = let h = c .before .before .before .before .before .before .before in let s = h .before .before .args .s .now in let i = h .loop .i in let w = passes s i (c .before .before .run-at .result .now) (search needs) (sym (c .before .before .before .before .in-run .ensures) ∙ c .before .before .before .if1 .taken) (c .before .before .run-at .ensures) in (omega (arith, w .short), sym (w .good (sym (c .before .is-sound .ensures) ∙ not-false _ (c .if2 .left))) ∙ h .loop .inv .1)
+
+add-i-2 : tie.Need-add-i-2 Inv-loop μ-loop
+add-i-2 c = search needs
+
+loop-less-2 : tie.Need-loop-less-2 Inv-loop μ-loop
+loop-less-2 c = search needs
+
+loop-again-2 : tie.Need-loop-again-2 Inv-loop μ-loop
+loop-again-2 c = let h = c .before .before .before .before in let s = h .before .before .args .s .now in let i = h .loop .i in (omega arith, sym (sound-other s i (search needs) (sym (c .before .in-run .ensures) ∙ c .if1 .left)) ∙ h .loop .inv .1)
+
+returns-2 : tie.Need-returns-2 Inv-loop μ-loop
+returns-2 c = let h = c .before in let s = h .before .before .args .s .now in sym (sound-end s (h .loop .i) (search needs)) ∙ h .loop .inv .1
+
+pub all-sound-spec : {M : Type 1} → statement M
+all-sound-spec =
+    tie.close
+    (tie.spec
+    Inv-loop
+    μ-loop
+    loop-holds
+    shared-slice-read-in-run
+    in-run-requires
+    run-at-requires
+    is-sound-requires
+    returns
+    add-i
+    loop-less
+    loop-again
+    add-i-2
+    loop-less-2
+    loop-again-2
+    returns-2)

@@ -1,0 +1,47 @@
+use mathlib.Core.Path.{sym, _∙_, ap}
+use borrow.Author.Tests.{not-true, not-false}
+use Rattle.text.proofs.Numbers.{sound-none, sound-word, sound-number, says}
+use borrow.Author.Needs.{needs}
+use Rattle.text.proofs.is_sound.Statement.{statement}
+use Rattle.text.proofs.is_sound.Tie as tie
+
+returns : tie.Need-returns
+returns c = sym (sound-none (c .before .before .args .run .now) (c .if1 .taken))
+
+shared-slice-read-is-digit : tie.Need-shared-slice-read-is-digit
+shared-slice-read-is-digit c = search needs
+
+is-digit-requires : tie.Need-is-digit-requires
+is-digit-requires c κs = search needs
+
+returns-2 : tie.Need-returns-2
+returns-2 c = sym (sound-word (c .before .before .before .before .before .args .run .now) (sym (c .before .is-digit .ensures) ∙ not-true _ (c .if2 .taken)))
+
+number-of-requires : tie.Need-number-of-requires
+number-of-requires c κs = search needs
+
+enum-told : tie.Need-enum-told
+enum-told c = search needs
+
+enum-told-2 : tie.Need-enum-told-2
+enum-told-2 c = search needs
+
+returns-3 : tie.Need-returns-3
+returns-3 c = let r = c .before .before .before .before .before .before .before .before .args .run .now in sym (sound-number r (c .before .before .before .before .before .before .if1 .left) (sym (c .before .before .before .before .is-digit .ensures) ∙ not-false _ (c .before .before .before .if2 .left)) ∙ ap says (sym (c .before .before .number-of .ensures) ∙ c .enum-told2 .given .1))
+
+returns-4 : tie.Need-returns-4
+returns-4 c = let r = c .before .before .before .before .before .before .before .before .args .run .now in sym (sound-number r (c .before .before .before .before .before .before .if1 .left) (sym (c .before .before .before .before .is-digit .ensures) ∙ not-false _ (c .before .before .before .if2 .left)) ∙ ap says (sym (c .before .before .number-of .ensures) ∙ c .enum-told .given .1))
+
+pub is-sound-spec : {M : Type 1} → statement M
+is-sound-spec =
+    tie.close
+    (tie.spec
+    returns
+    shared-slice-read-is-digit
+    is-digit-requires
+    returns-2
+    number-of-requires
+    enum-told
+    enum-told-2
+    returns-3
+    returns-4)

@@ -1,0 +1,55 @@
+use mathlib.Core.Path.{sym, _∙_, ap}
+use Rattle.text.proofs.Walks.{no-form, not-opened, form-from, afterClose, ends-there}
+use Rattle.text.proofs.Closing.{placed}
+use borrow.Author.Needs.{needs}
+use Rattle.text.proofs.one_form.Statement.{statement}
+use Rattle.text.proofs.one_form.Tie as tie
+
+skip-requires : tie.Need-skip-requires
+skip-requires c κs = search needs
+
+returns : tie.Need-returns
+returns c = sym (no-form (c .before .before .before .args .s .now) _ (c .before .skip .ensures .0) 4 (c .if1 .taken))
+
+shared-slice-read-if2 : tie.Need-shared-slice-read-if2
+shared-slice-read-if2 c = search needs
+
+returns-2 : tie.Need-returns-2
+returns-2 c = sym (not-opened (c .before .before .before .before .before .args .s .now) _ (c .before .before .before .skip .ensures .0) (search needs) 4 (c .if2 .taken))
+
+add-close-at : tie.Need-add-close-at
+add-close-at c = search needs
+
+close-at-requires : tie.Need-close-at-requires
+close-at-requires c κs = search needs
+
+enum-known-j : tie.Need-enum-known-j
+enum-known-j c = search needs
+
+enum-told : tie.Need-enum-told
+enum-told c = search needs
+
+returns-3 : tie.Need-returns-3
+returns-3 c = let s = c .before .before .before .before .before .before .before .before .args .s .now in let r = sym (c .before .before .close-at .ensures) ∙ c .enum-told .given .1 in sym (form-from s _ (c .before .before .before .before .before .before .skip .ensures .0) (search needs) 3 (c .before .before .before .if2 .left) ∙ ap (afterClose 4 s) r)
+
+skip-requires-2 : tie.Need-skip-requires-2
+skip-requires-2 c κs = let s = c .before .before .before .before .before .before .before .before .before .args .s .now in let r = sym (c .before .before .before .close-at .ensures) ∙ c .before .j .given .1 in placed s (c .before .before .before .before .before .before .before .skip .result) 4 _ (search needs) r .1
+
+returns-4 : tie.Need-returns-4
+returns-4 c = let s = c .before .before .before .before .before .before .before .before .before .before .args .s .now in let i = c .before .before .before .before .before .before .before .before .skip .result in let r = sym (c .before .before .before .before .close-at .ensures) ∙ c .before .before .j .given .1 in sym (form-from s i (c .before .before .before .before .before .before .before .before .skip .ensures .0) (search needs) 3 (c .before .before .before .before .before .if2 .left) ∙ ap (afterClose 4 s) r ∙ ends-there 4 s _ (c .skip2 .result) (placed s i 4 _ (search needs) r .1) (c .skip2 .ensures .0))
+
+pub one-form-spec : {M : Type 1} → statement M
+one-form-spec =
+    tie.close
+    (tie.spec
+    skip-requires
+    returns
+    shared-slice-read-if2
+    returns-2
+    add-close-at
+    close-at-requires
+    enum-known-j
+    enum-told
+    returns-3
+    skip-requires-2
+    returns-4)

@@ -1,0 +1,34 @@
+-- Places of a line, as the reader carries them from step to step. The laws lead from them to the definitions of Token and Line.
+use mathlib.Core.Bool.{Bool, true, false, cond, _&&_}
+use mathlib.Core.List.{List, [], _∷_}
+use Prim.Native.Nat.{ℕ, suc, _+_, _-_}
+use lib.Dec.{eqb, leb}
+use Rattle.text.specs.declared.Closed.{Closed}
+use Rattle.text.specs.declared.Closed.the-variants.{At, Nowhere}
+use Rattle.whole.specs.Lists.{all}
+use Rattle.text.specs.declared.Number.{Number}
+use Rattle.text.specs.declared.Number.the-variants.{Is, Bad}
+use Rattle.text.specs.Token.{space, opening, closing, isDigit, inRun, valueFrom}
+
+-- how many spaces stand in front
+unfoldable pub spaces : List ℕ → ℕ
+spaces [] = 0
+spaces (b ∷ s) = cond (eqb b space) (suc (spaces s)) 0
+
+-- the place behind the bracket that closes a form, in what is left of a line from the place p on: `left` more brackets may be
+-- opened inside the form, and `deep` are open in it
+unfoldable pub closeAt : List ℕ → (p left deep : ℕ) → Closed
+closeAt [] p left deep = Nowhere
+closeAt (b ∷ s) p left deep =
+    cond (eqb b closing) (cond (eqb deep 0) (At (p + 1)) (closeAt s (p + 1) (left + 1) (deep - 1)))
+    (cond (eqb b opening) (cond (eqb left 0) Nowhere (closeAt s (p + 1) (left - 1) (deep + 1)))
+    (closeAt s (p + 1) left deep))
+
+-- how many bytes the run in front has
+unfoldable pub runLength : List ℕ → ℕ
+runLength [] = 0
+runLength (b ∷ s) = cond (inRun b) (suc (runLength s)) 0
+
+-- the number that digits say behind the value v, a zero in front or not
+unfoldable pub digitsFrom : ℕ → List ℕ → Number
+digitsFrom v s = cond (all isDigit s && leb (valueFrom v s) 999999999) (Is (valueFrom v s)) Bad
