@@ -4,18 +4,14 @@ use mathlib.Core.Bool.{Bool, true, false, cond}
 use mathlib.Core.List.{List, [], _∷_}
 use Prim.Native.Nat.{ℕ, _+_, _-_, _≤_, _<_}
 use native.Mathlib.Omega.{arith}
-use native.Mathlib.Numerals.{add-one}
 use lib.Dec.{eqb}
-use lib.ListN.{length, getD, drop, drop-of-length-le, length-drop}
-use lib.Seq.{drop-cons, drop-drop}
+use lib.ListN.{length, getD, drop, length-drop}
+use lib.Seq.{drop-drop}
 use borrow.Author.Tests.{ne-eqb, eqb-true, eqb-false}
+use Rattle.whole.proofs.Lists.{drop-next, drop-end}
 use Rattle.text.specs.declared.Closed.{Closed}
 use Rattle.text.specs.declared.Closed.the-variants.{At, Nowhere}
 use Rattle.text.specs.Places.{closeAt}
-
--- what is left at i: the byte there, and what is left behind it
-pub drop-next : (s : List ℕ) (i : ℕ) → i < length s → drop i s ≡ getD s i 0 ∷ drop (i + 1) s
-drop-next s i p = rw (drop-cons s i 0, add-one)
 
 -- what follows a form that closed inside another
 abbrev pub resume : List ℕ → ℕ → ℕ → Closed → Closed
@@ -99,26 +95,26 @@ module _ (w : List ℕ) where
 module _ (s : List ℕ) (i left : ℕ) where
   pub close-out : length s ≤ i → closeAt (drop i s) i left 0 ≡ Nowhere
   unfolding closeAt
-  close-out p = rw (drop-of-length-le s {i = i} p)
+  close-out p = rw (drop-end s i 0 p)
 
   module _ (p : i < length s) where
     pub close-shut : getD s i 0 ≡ 41 → closeAt (drop i s) i left 0 ≡ At (i + 1)
     unfolding closeAt
-    close-shut e = rw (drop-next s i p, e)
+    close-shut e = rw (drop-next s i 0 p, e)
 
     pub close-full : getD s i 0 ≡ 40 → left ≡ 0 → closeAt (drop i s) i left 0 ≡ Nowhere
     unfolding closeAt
-    close-full e z = rw (drop-next s i p, e, z)
+    close-full e z = rw (drop-next s i 0 p, e, z)
 
     pub close-other : (getD s i 0 ≡ 41 → ⊥) → (getD s i 0 ≡ 40 → ⊥) → closeAt (drop i s) i left 0 ≡ closeAt (drop (i + 1) s) (i + 1) left 0
     unfolding closeAt
-    close-other e f = rw (drop-next s i p, ne-eqb _ 41 e, ne-eqb _ 40 f)
+    close-other e f = rw (drop-next s i 0 p, ne-eqb _ 41 e, ne-eqb _ 40 f)
 
     pub close-inner : getD s i 0 ≡ 40 → (left ≡ 0 → ⊥) → closeAt (drop i s) i left 0 ≡ resume s left 0 (closeAt (drop (i + 1) s) (i + 1) (left - 1) 0)
     unfolding closeAt
     close-inner e f =
         let a : left - 1 + 0 + 1 ≡ left = omega arith in
-        rw (drop-next s i p, e, ne-eqb _ 0 f) (rw a at (split s (drop (i + 1) s) (i + 1) (left - 1) 0 0 refl))
+        rw (drop-next s i 0 p, e, ne-eqb _ 0 f) (rw a at (split s (drop (i + 1) s) (i + 1) (left - 1) 0 0 refl))
 
 -- where an inner form ends
 pub placed :

@@ -5,7 +5,7 @@ use mathlib.Core.List.{List, [], _∷_}
 use Prim.Native.Nat.{ℕ, zero, suc, _+_, _-_, _*_, _≤_, _<_}
 use native.Mathlib.Omega.{arith}
 use lib.Dec.{leb}
-use lib.ListN.{length, getD, drop, drop-of-length-le}
+use lib.ListN.{length, getD, drop}
 use borrow.Author.Tests.{ne-eqb, le-leb, lt-leb}
 use Rattle.whole.specs.Lists.{all}
 use Rattle.text.specs.Token.{isDigit, inRun, valueFrom, value, needlessZero, isNumber, numberOf}
@@ -13,7 +13,7 @@ use Rattle.text.specs.Line.{numberIfDigit}
 use Rattle.text.specs.Places.{runLength, digitsFrom}
 use Rattle.text.specs.declared.Number.{Number}
 use Rattle.text.specs.declared.Number.the-variants.{Is, Bad}
-use Rattle.text.proofs.Closing.{drop-next}
+use Rattle.whole.proofs.Lists.{drop-next, drop-end}
 
 -- a value never falls as digits follow
 pub value-grows : (v : ℕ) (l : List ℕ) → v ≤ valueFrom v l
@@ -43,29 +43,29 @@ no-more v p = rw (le-leb v 999999999 p)
 
 module _ (s : List ℕ) (i : ℕ) where
   pub digits-out : (v : ℕ) → v ≤ 999999999 → length s ≤ i → digitsFrom v (drop i s) ≡ Is v
-  digits-out v q p = rw (drop-of-length-le s {i = i} p) (no-more v q)
+  digits-out v q p = rw (drop-end s i 0 p) (no-more v q)
 
   pub run-out : length s ≤ i → runLength (drop i s) ≡ 0
   unfolding runLength
-  run-out p = rw (drop-of-length-le s {i = i} p)
+  run-out p = rw (drop-end s i 0 p)
 
   module _ (p : i < length s) where
     pub digits-bad : (v : ℕ) → isDigit (getD s i 0) ≡ false → digitsFrom v (drop i s) ≡ Bad
-    digits-bad v e = rw (drop-next s i p) (one-bad v (getD s i 0) (drop (i + 1) s) e)
+    digits-bad v e = rw (drop-next s i 0 p) (one-bad v (getD s i 0) (drop (i + 1) s) e)
 
     pub digits-on : (v : ℕ) → isDigit (getD s i 0) ≡ true → digitsFrom v (drop i s) ≡ digitsFrom (10 * v + (getD s i 0 - 48)) (drop (i + 1) s)
-    digits-on v e = rw (drop-next s i p) (one-more v (getD s i 0) (drop (i + 1) s) e)
+    digits-on v e = rw (drop-next s i 0 p) (one-more v (getD s i 0) (drop (i + 1) s) e)
 
     pub digits-large : (v : ℕ) → isDigit (getD s i 0) ≡ true → 999999999 < 10 * v + (getD s i 0 - 48) → digitsFrom v (drop i s) ≡ Bad
     digits-large v e q = digits-on v e ∙ too-large (10 * v + (getD s i 0 - 48)) (drop (i + 1) s) q
 
     pub run-on : inRun (getD s i 0) ≡ true → runLength (drop i s) ≡ suc (runLength (drop (i + 1) s))
     unfolding runLength
-    run-on e = rw (drop-next s i p, e)
+    run-on e = rw (drop-next s i 0 p, e)
 
     pub run-off : inRun (getD s i 0) ≡ false → runLength (drop i s) ≡ 0
     unfolding runLength
-    run-off e = rw (drop-next s i p, e)
+    run-off e = rw (drop-next s i 0 p, e)
 
 -- a number: digits without a needless zero
 pub number-none : (r : List ℕ) → length r ≡ 0 → numberOf r ≡ Bad

@@ -5,13 +5,13 @@ use mathlib.Core.List.{List, [], _∷_}
 use Prim.Native.Nat.{ℕ, suc, _+_, _≤_, _<_}
 use native.Mathlib.Omega.{arith}
 use lib.Dec.{eqb}
-use lib.ListN.{length, getD, take, drop, drop-of-length-le, length-drop}
+use lib.ListN.{length, getD, take, drop, length-drop}
 use lib.Seq.{drop-drop, length-take-le}
 use Rattle.whole.specs.Lists.{all}
 use Rattle.text.specs.Token.{opened, closed, run, opening, closing, inRun, startsRun, glue, tokens}
 use Rattle.text.specs.Line.{numberIfDigit, soundToken}
 use Rattle.text.specs.Places.{runLength}
-use Rattle.text.proofs.Closing.{drop-next}
+use Rattle.whole.proofs.Lists.{drop-next, drop-end}
 
 no-run : (s : List ℕ) → startsRun s ≡ false → runLength s ≡ 0
 unfolding runLength
@@ -61,17 +61,17 @@ one-long b s e = rw e (omega arith)
 
 pub sound-end : (s : List ℕ) (i : ℕ) → length s ≤ i → sound (drop i s) ≡ true
 unfolding all tokens
-sound-end s i p = rw (drop-of-length-le s {i = i} p)
+sound-end s i p = rw (drop-end s i 0 p)
 
 module _ (s : List ℕ) (i : ℕ) (p : i < length s) where
   pub sound-other : inRun (getD s i 0) ≡ false → sound (drop i s) ≡ sound (drop (i + 1) s)
-  sound-other e = rw (drop-next s i p) (one-other (getD s i 0) (drop (i + 1) s) e)
+  sound-other e = rw (drop-next s i 0 p) (one-other (getD s i 0) (drop (i + 1) s) e)
 
   sound-run : inRun (getD s i 0) ≡ true → sound (drop i s) ≡ (numberIfDigit (take (runLength (drop i s)) (drop i s)) && sound (drop (runLength (drop i s)) (drop i s)))
-  sound-run e = rw (drop-next s i p) (starts (getD s i 0) (drop (i + 1) s) e)
+  sound-run e = rw (drop-next s i 0 p) (starts (getD s i 0) (drop (i + 1) s) e)
 
   run-long : inRun (getD s i 0) ≡ true → 0 < runLength (drop i s)
-  run-long e = rw (drop-next s i p) (one-long (getD s i 0) (drop (i + 1) s) e)
+  run-long e = rw (drop-next s i 0 p) (one-long (getD s i 0) (drop (i + 1) s) e)
 
 -- a step over the run r, which starts at i
 pub record Passes (s : List ℕ) (i : ℕ) (r : List ℕ) : Type 0 where

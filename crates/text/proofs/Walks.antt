@@ -5,42 +5,29 @@ use mathlib.Core.List.{List, [], _∷_}
 use Prim.Native.Nat.{ℕ, zero, suc, _+_, _-_, _≤_, _<_}
 use native.Mathlib.Omega.{arith}
 use lib.Dec.{eqb, ltb}
-use lib.ListN.{length, getD, drop, drop-of-length-le, length-drop}
+use lib.ListN.{length, getD, drop, length-drop}
 use borrow.Author.Tests.{ne-eqb, eq-eqb, eqb-true, eqb-false, lt-ltb, le-ltb}
 use lib.Seq.{drop-drop}
-use Rattle.whole.specs.Lists.{all}
 use Rattle.text.specs.Token.{space, opening, closing}
 use Rattle.text.specs.Line.{before, inside, behind, wrong, outOf, walked, isBehind, oneForm}
 use Rattle.text.specs.Places.{spaces, closeAt}
 use Rattle.text.specs.declared.Closed.{Closed}
 use Rattle.text.specs.declared.Closed.the-variants.{At, Nowhere}
-use Rattle.text.proofs.Closing.{drop-next}
+use Rattle.whole.proofs.Lists.{drop-next, drop-end}
 
 module _ (s : List ℕ) (i : ℕ) where
-  pub all-out : (f : ℕ → Bool) → length s ≤ i → all f (drop i s) ≡ true
-  unfolding all
-  all-out f p = rw (drop-of-length-le s {i = i} p)
-
   pub spaces-out : length s ≤ i → spaces (drop i s) ≡ 0
   unfolding spaces
-  spaces-out p = rw (drop-of-length-le s {i = i} p)
+  spaces-out p = rw (drop-end s i 0 p)
 
   module _ (p : i < length s) where
-    pub all-stop : (f : ℕ → Bool) → f (getD s i 0) ≡ false → all f (drop i s) ≡ false
-    unfolding all
-    all-stop f e = rw (drop-next s i p, e)
-
-    pub all-on : (f : ℕ → Bool) → f (getD s i 0) ≡ true → all f (drop i s) ≡ all f (drop (i + 1) s)
-    unfolding all
-    all-on f e = rw (drop-next s i p, e)
-
     pub spaces-on : getD s i 0 ≡ 32 → spaces (drop i s) ≡ suc (spaces (drop (i + 1) s))
     unfolding spaces
-    spaces-on e = rw (drop-next s i p, e)
+    spaces-on e = rw (drop-next s i 0 p, e)
 
     pub spaces-off : (getD s i 0 ≡ 32 → ⊥) → spaces (drop i s) ≡ 0
     unfolding spaces
-    spaces-off e = rw (drop-next s i p, ne-eqb _ 32 e)
+    spaces-off e = rw (drop-next s i 0 p, ne-eqb _ 32 e)
 
 -- a walk that went wrong stays wrong
 pub walked-wrong : (most : ℕ) (l : List ℕ) → walked most wrong l ≡ wrong
@@ -147,12 +134,12 @@ module _ (s : List ℕ) (i : ℕ) (there : i ≡ 0 + spaces (drop 0 s)) where
 
   pub no-form : (most : ℕ) → length s ≤ i → oneForm most s ≡ false
   unfolding walked
-  no-form most p = from-there most ∙ rw (drop-of-length-le s {i = i} p)
+  no-form most p = from-there most ∙ rw (drop-end s i 0 p)
 
   module _ (p : i < length s) where
     pub not-opened : (most : ℕ) → (getD s i 0 ≡ 40 → ⊥) → oneForm most s ≡ false
-    not-opened most a = from-there most ∙ rw (drop-next s i p) (neither most (getD s i 0) (drop (i + 1) s) (rw e (spaces-stop s (omega arith))) a)
+    not-opened most a = from-there most ∙ rw (drop-next s i 0 p) (neither most (getD s i 0) (drop (i + 1) s) (rw e (spaces-stop s (omega arith))) a)
 
     pub form-from : (left : ℕ) → getD s i 0 ≡ 40 → oneForm (left + 1) s ≡ afterClose (left + 1) s (closeAt (drop (i + 1) s) (i + 1) left 0)
     unfolding walked
-    form-from left a = from-there (left + 1) ∙ rw (drop-next s i p, a) (walk-close s (left + 1) (drop (i + 1) s) (i + 1) left 0 refl refl)
+    form-from left a = from-there (left + 1) ∙ rw (drop-next s i 0 p, a) (walk-close s (left + 1) (drop (i + 1) s) (i + 1) left 0 refl refl)

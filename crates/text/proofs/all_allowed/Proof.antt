@@ -6,7 +6,7 @@ use native.Mathlib.Omega.{arith}
 use mathlib.Core.Path.{_≡_, sym, _∙_}
 use lib.ListN.{length, drop}
 use borrow.Author.Tests.{not-true, not-false}
-use Rattle.text.proofs.Walks.{all-out, all-stop, all-on}
+use Rattle.whole.proofs.Lists.{all-stop, all-go, all-done}
 use Rattle.text.proofs.all_allowed.Statement.{statement}
 use Rattle.text.proofs.all_allowed.Tie as tie
 
@@ -26,7 +26,7 @@ is-allowed-requires : tie.Need-is-allowed-requires Inv-loop μ-loop
 is-allowed-requires c κs = search needs
 
 returns : tie.Need-returns Inv-loop μ-loop
-returns c = let h = c .before .before .before .before in let s = h .before .before .args .s .now in let i = h .loop .i in sym (all-stop s i (search needs) allowed (sym (c .before .is-allowed .ensures) ∙ not-true _ (c .if1 .taken))) ∙ h .loop .inv .1
+returns c = let h = c .before .before .before .before in let s = h .before .before .args .s .now in let i = h .loop .i in all-stop allowed s i 0 (h .loop .inv .1) (search needs) (sym (c .before .is-allowed .ensures) ∙ not-true _ (c .if1 .taken))
 
 add-i : tie.Need-add-i Inv-loop μ-loop
 add-i c = search needs
@@ -35,10 +35,10 @@ loop-less : tie.Need-loop-less Inv-loop μ-loop
 loop-less c = search needs
 
 loop-again : tie.Need-loop-again Inv-loop μ-loop
-loop-again c = let h = c .before .before .before .before in let s = h .before .before .args .s .now in let i = h .loop .i in (omega arith, sym (all-on s i (search needs) allowed (sym (c .before .is-allowed .ensures) ∙ not-false _ (c .if1 .left))) ∙ h .loop .inv .1)
+loop-again c = let h = c .before .before .before .before in let s = h .before .before .args .s .now in let i = h .loop .i in (omega arith, all-go allowed s i 0 (h .loop .inv .1) (search needs) (sym (c .before .is-allowed .ensures) ∙ not-false _ (c .if1 .left)))
 
 returns-2 : tie.Need-returns-2 Inv-loop μ-loop
-returns-2 c = let h = c .before in let s = h .before .before .args .s .now in let i = h .loop .i in sym (all-out s i allowed (search needs)) ∙ h .loop .inv .1
+returns-2 c = let h = c .before in let s = h .before .before .args .s .now in let i = h .loop .i in all-done allowed s i 0 (h .loop .inv .1) (search needs)
 
 pub all-allowed-spec : {M : Type 1} → statement M
 all-allowed-spec =
