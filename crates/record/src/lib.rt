@@ -4,7 +4,8 @@ ghost use mathlib.Core.Bool.{_&&_};
 ghost use Prim.Native.Nat.{ℕ, _≤_, _<_};
 ghost use Rattle.whole.specs.Lists.{within, all, sumOf};
 ghost use Rattle.record.specs.Limits.{edge, displacement, shipLimits, loadLimits, columnLimits, cellWidth, cellLip, cellLimits, cellsOf, sectionLimits, slackLimits, partLimits, partsOf, holdLimits, placeLimits};
-ghost use Rattle.record.specs.Columns.{held, columnAnswer, noColumns, withColumn};
+ghost use Rattle.record.specs.Columns.{held, columnAnswer, noColumn, noColumns, withColumn};
+ghost use Rattle.record.specs.Filler.{noSlot, noPart, noHold};
 
 // The rule that judges the ship, with the angle of deck-edge immersion, in hundredths of a degree.
 pub enum Rule {
@@ -380,11 +381,58 @@ pub fn place_limits(n: u32) -> bool
     both(1 <= n, n <= 16)
 }
 
+// What unused places hold.
+pub fn no_slot() -> Slot
+    ensures { λ r. ⌜ r ≡ noSlot ⌝ }
+{
+    Slot {
+        cell: Cell::Void {
+            width: 0,
+            depth: 0,
+            lip: 0,
+        },
+    }
+}
+
+pub fn no_part() -> Part
+    ensures { λ r. ⌜ r ≡ noPart ⌝ }
+{
+    let s = no_slot();
+    let cells = [s; 8];
+    Part {
+        length: 0,
+        breadth: 0,
+        void: 0,
+        grain: 0,
+        count: 0,
+        cells,
+    }
+}
+
+pub fn no_hold() -> Hold
+    ensures { λ r. ⌜ r ≡ noHold ⌝ }
+{
+    let p = no_part();
+    let parts = [p; 6];
+    let head = Head {
+        mode: Mode::Trimmed,
+        factor: 0,
+        count: 0,
+    };
+    Hold { head, parts }
+}
+
+pub fn no_column() -> Column
+    ensures { λ r. ⌜ r ≡ noColumn ⌝ }
+{
+    let kn = [0u16; 10];
+    Column { d: 0, km: 0, kn }
+}
+
 pub fn no_columns() -> Columns
     ensures { λ r. ⌜ r ≡ noColumns ⌝ }
 {
-    let kn = [0u16; 10];
-    let k = Column { d: 0, km: 0, kn };
+    let k = no_column();
     let places = [k; 20];
     Columns { count: 0, places }
 }

@@ -1,6 +1,6 @@
 -- How numbers that were read are carried. A line may say numbers up to 999,999,999, and all but D are stored in 16 bits: a
--- number above 65,535 is carried as 65,535, which is above every limit of those fields too. (To be shown with the
--- reader: no limit test sees the difference, and a number within its limits is carried as it is.)
+-- number above 65,535 is carried as 65,535, which is above every limit of those fields too. No limit test sees the
+-- difference, and a record within its limits is carried as it is (proofs/Kept.antt).
 use mathlib.Core.Path.{_≡_}
 use mathlib.Core.Bool.{Bool, true}
 use mathlib.Core.List.{List, [], _∷_, map}
@@ -18,9 +18,15 @@ use Rattle.record.specs.declared.Hold.{Hold}
 use Rattle.request.specs.declared.Kind.{Kind}
 use Rattle.request.specs.declared.Kind.the-variants.{ShipLine, ColumnLine, LoadLine, HoldLine, DropLine, JudgeLine, ClearLine, NoShape}
 use Rattle.request.specs.declared.Request.{Request}
+use Rattle.request.specs.Grammar.{Parsed, got, none}
 
 abbrev pub carried : ℕ → ℕ
 carried v = min v 65535
+
+-- what was read, as it is carried
+abbrev pub carry : {A B : Type 0} → (A → B) → Parsed A → Parsed B
+carry f (got a ts) = got (f a) ts
+carry f none = none
 
 abbrev pub carriedRule : Rule → Rule
 carriedRule (New e) = New (carried e)
@@ -42,6 +48,9 @@ carriedCell (Void w d l) = Void (carried w) (carried d) (carried l)
 
 abbrev pub carriedSlot : Slot → Slot
 carriedSlot s = record { cell = carriedCell (s .cell) }
+
+abbrev pub slotOf : Cell → Slot
+slotOf c = record { cell = carriedCell c }
 
 abbrev pub carriedPart : Part → Part
 carriedPart p =

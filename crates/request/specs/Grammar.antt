@@ -1,13 +1,12 @@
 -- Reading a shape from the front of a list of tokens: what was read, and the tokens behind it.
-use mathlib.Core.Bool.{Bool, true, false, cond, _&&_}
+use mathlib.Core.Bool.{Bool, true, false, cond}
 use mathlib.Core.List.{List, [], _∷_}
 use Prim.Native.Nat.{ℕ, zero, suc}
-use lib.Dec.{eqb}
 use Prim.Native.String.{String}
 use Rattle.whole.specs.Bytes.{bytes}
 use Rattle.text.specs.declared.Number.{Number}
 use Rattle.text.specs.declared.Number.the-variants.{Is, Bad}
-use Rattle.text.specs.Token.{Token, opened, closed, run, numberOf}
+use Rattle.text.specs.Token.{Token, opened, closed, run, numberOf, same}
 
 pub data Parsed (A : Type 0) : Type 0 where
   got : A → List Token → Parsed A
@@ -39,43 +38,50 @@ run? (opened ∷ ts) = none
 run? (closed ∷ ts) = none
 run? (run r ∷ ts) = got r ts
 
--- the same bytes
-unfoldable pub same : List ℕ → List ℕ → Bool
-same [] [] = true
-same [] (y ∷ ys) = false
-same (x ∷ xs) [] = false
-same (x ∷ xs) (y ∷ ys) = eqb x y && same xs ys
+-- a form's opening bracket and the run behind it
+unfoldable pub head? : List Token → Parsed (List ℕ)
+head? ts = open? ts andThen λ u us. run? us
 
 -- this word
-abbrev pub word? : String → List Token → Parsed (Unit {0})
-word? w ts = run? ts andThen λ r us. cond (same r (bytes w)) (got tt us) none
+abbrev pub is : List ℕ → String → Bool
+is r word = same r (bytes word)
 
 abbrev pub gotNumber : Number → List Token → Parsed ℕ
 gotNumber (Is v) ts = got v ts
 gotNumber Bad ts = none
 
--- a number; k numbers
-abbrev pub number? : List Token → Parsed ℕ
+-- a number
+unfoldable pub number? : List Token → Parsed ℕ
 number? ts = run? ts andThen λ r us. gotNumber (numberOf r) us
 
+-- k numbers
 unfoldable pub numbers? : ℕ → List Token → Parsed (List ℕ)
 numbers? zero ts = got [] ts
 numbers? (suc k) ts = number? ts andThen λ v us. numbers? k us andThen λ vs ws. got (v ∷ vs) ws
+
+-- the last k numbers of a form, and its closing bracket
+unfoldable pub lastNumbers? : ℕ → List Token → Parsed (List ℕ)
+lastNumbers? k ts = numbers? k ts andThen λ vs us. close? us andThen λ u ws. got vs ws
 
 -- what was read if the first reading is none
 abbrev pub orElse : {A : Type 0} → Parsed A → Parsed A → Parsed A
 orElse (got a ts) other = got a ts
 orElse none other = other
 
--- at most k items, and the closing bracket behind them
+-- the last items of a form, at most k, and its closing bracket
 unfoldable pub items? : {A : Type 0} → ℕ → (List Token → Parsed A) → List Token → Parsed (List A)
 items? zero item ts = close? ts andThen λ u us. got [] us
 items? (suc k) item ts =
     orElse (close? ts andThen λ u us. got [] us) (item ts andThen λ x us. items? k item us andThen λ xs ws. got (x ∷ xs) ws)
 
--- from one to k + 1 items, and the closing bracket behind them
+-- at least one
+abbrev pub someOf : {A : Type 0} → List A → List Token → Parsed (List A)
+someOf [] ts = none
+someOf (x ∷ xs) ts = got (x ∷ xs) ts
+
+-- from one to k items, and the closing bracket behind them
 abbrev pub several? : {A : Type 0} → ℕ → (List Token → Parsed A) → List Token → Parsed (List A)
-several? k item ts = item ts andThen λ x us. items? k item us andThen λ xs ws. got (x ∷ xs) ws
+several? k item ts = items? k item ts andThen someOf
 
 -- nothing behind it: the answer for a whole line
 abbrev pub whole? : {A : Type 0} → Parsed A → A → A

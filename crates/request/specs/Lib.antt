@@ -1,3 +1,4 @@
 pub mod Grammar
 pub mod Shape
 pub mod Carried
+pub mod Places

@@ -21,7 +21,7 @@ use Rattle.text.specs.Token.{Token}
 use Rattle.request.specs.declared.Kind.{Kind}
 use Rattle.request.specs.declared.Kind.the-variants.{ShipLine, ColumnLine, LoadLine, HoldLine, DropLine, JudgeLine, ClearLine, NoShape}
 use Rattle.request.specs.declared.Request.{Request}
-use Rattle.request.specs.Grammar.{Parsed, got, none, _andThen_, open?, close?, word?, number?, numbers?, orElse, several?, whole?}
+use Rattle.request.specs.Grammar.{Parsed, got, none, _andThen_, open?, close?, run?, head?, is, number?, lastNumbers?, several?, whole?}
 
 -- the n-th of the numbers read
 abbrev pub nth : List ℕ → ℕ → ℕ
@@ -37,46 +37,51 @@ columnRequest k = record { kind = ColumnLine; hold = noHold; column = k }
 abbrev pub holdRequest : ℕ → Hold → Request
 holdRequest n h = record { kind = HoldLine n; hold = h; column = noColumn }
 
--- `EDGE FLOOD)` behind the rule's word
-unfoldable pub ruled? : (ℕ → Rule) → List Token → Parsed Request
-ruled? rule ts =
-    numbers? 2 ts andThen λ vs us.
-    close? us andThen λ u ws.
-    got (plain (ShipLine (record { rule = rule (nth vs 0); flood = nth vs 1 }))) ws
-
 -- `RULE EDGE FLOOD)` behind `(ship`
+abbrev pub shipRequest : Rule → ℕ → Request
+shipRequest rule flood = plain (ShipLine (record { rule = rule; flood = flood }))
+
 unfoldable pub ship? : List Token → Parsed Request
 ship? ts =
-    orElse (word? "new" ts andThen λ u us. ruled? New us) (word? "old" ts andThen λ u us. ruled? Old us)
+    run? ts andThen λ r us.
+    lastNumbers? 2 us andThen λ v ws.
+    cond (is r "new") (got (shipRequest (New (nth v 0)) (nth v 1)) ws)
+    (cond (is r "old") (got (shipRequest (Old (nth v 0)) (nth v 1)) ws) none)
 
 -- `D KM (K .. K))` behind `(column`
 unfoldable pub column? : List Token → Parsed Request
 column? ts =
-    numbers? 2 ts andThen λ vs t1.
-    open? t1 andThen λ u t2.
-    numbers? 10 t2 andThen λ kn t3.
-    close? t3 andThen λ u t4.
+    number? ts andThen λ d t1.
+    number? t1 andThen λ km t2.
+    open? t2 andThen λ u t3.
+    lastNumbers? 10 t3 andThen λ kn t4.
     close? t4 andThen λ u t5.
-    got (columnRequest (record { d = nth vs 0; km = nth vs 1; kn = kn })) t5
+    got (columnRequest (record { d = d; km = km; kn = kn })) t5
 
 -- `D KG FS)` behind `(load`
 unfoldable pub load? : List Token → Parsed Request
 load? ts =
-    numbers? 3 ts andThen λ vs us.
-    close? us andThen λ u ws.
-    got (plain (LoadLine (record { d = nth vs 0; kg = nth vs 1; fs = nth vs 2 }))) ws
+    number? ts andThen λ d us.
+    lastNumbers? 2 us andThen λ v ws.
+    got (plain (LoadLine (record { d = d; kg = nth v 0; fs = nth v 1 }))) ws
 
--- the numbers of a cell and its closing bracket, behind its word
-abbrev pub cellBody : ℕ → (List ℕ → Cell) → List Token → Parsed Cell
-cellBody k make ts = numbers? k ts andThen λ vs us. close? us andThen λ u ws. got (make vs) ws
+-- `WIDTH DIST GIRDER LIP)`, `WIDTH OPEN LIP)`, `WIDTH DEPTH LIP)`, each behind its word
+unfoldable pub wing? : List Token → Parsed Cell
+wing? ts = lastNumbers? 4 ts andThen λ v us. got (Wing (nth v 0) (nth v 1) (nth v 2) (nth v 3)) us
 
--- `(wing WIDTH DIST GIRDER LIP)`, `(hatch WIDTH OPEN LIP)`, `(void WIDTH DEPTH LIP)`
+unfoldable pub hatch? : List Token → Parsed Cell
+hatch? ts = lastNumbers? 3 ts andThen λ v us. got (Hatch (nth v 0) (nth v 1) (nth v 2)) us
+
+unfoldable pub void? : List Token → Parsed Cell
+void? ts = lastNumbers? 3 ts andThen λ v us. got (Void (nth v 0) (nth v 1) (nth v 2)) us
+
+-- a cell, by its word
 unfoldable pub cell? : List Token → Parsed Cell
 cell? ts =
-    open? ts andThen λ u us.
-    orElse (word? "wing" us andThen λ u ws. cellBody 4 (λ v. Wing (nth v 0) (nth v 1) (nth v 2) (nth v 3)) ws)
-    (orElse (word? "hatch" us andThen λ u ws. cellBody 3 (λ v. Hatch (nth v 0) (nth v 1) (nth v 2)) ws)
-    (word? "void" us andThen λ u ws. cellBody 3 (λ v. Void (nth v 0) (nth v 1) (nth v 2)) ws))
+    head? ts andThen λ r us.
+    cond (is r "wing") (wing? us)
+    (cond (is r "hatch") (hatch? us)
+    (cond (is r "void") (void? us) none))
 
 -- a part of cells, and a part of three sizes; unused places are filled, so that equal records are equal values
 abbrev pub sectionRecord : ℕ → List Cell → Part
@@ -91,67 +96,69 @@ sectionRecord length′ cs =
     }
 
 abbrev pub slackRecord : List ℕ → Part
-slackRecord vs =
-    record { length = nth vs 0; breadth = nth vs 1; void = nth vs 2; grain = nth vs 3; count = 0; cells = padded 8 noSlot [] }
+slackRecord v =
+    record { length = nth v 0; breadth = nth v 1; void = nth v 2; grain = nth v 3; count = 0; cells = padded 8 noSlot [] }
 
--- `(part LENGTH CELL ..)`, with one to eight cells
+-- `LENGTH CELL ..)` behind `(part`, with one to eight cells
 unfoldable pub section? : List Token → Parsed Part
 section? ts =
-    open? ts andThen λ u t1.
-    word? "part" t1 andThen λ u t2.
-    number? t2 andThen λ v t3.
-    several? 7 cell? t3 andThen λ cs t4.
-    got (sectionRecord v cs) t4
+    number? ts andThen λ v us.
+    several? 8 cell? us andThen λ cs ws.
+    got (sectionRecord v cs) ws
 
--- `(part LENGTH BREADTH VOID GRAIN)`
+-- `LENGTH BREADTH VOID GRAIN)` behind `(part`
 unfoldable pub slack? : List Token → Parsed Part
-slack? ts =
-    open? ts andThen λ u t1.
-    word? "part" t1 andThen λ u t2.
-    numbers? 4 t2 andThen λ vs t3.
-    close? t3 andThen λ u t4.
-    got (slackRecord vs) t4
+slack? ts = lastNumbers? 4 ts andThen λ v us. got (slackRecord v) us
 
 -- the parts go by the mode
-abbrev pub part? : Mode → List Token → Parsed Part
-part? Trimmed ts = section? ts
-part? Voided ts = section? ts
-part? Partial ts = slack? ts
+unfoldable pub body? : Mode → List Token → Parsed Part
+body? Trimmed ts = section? ts
+body? Voided ts = section? ts
+body? Partial ts = slack? ts
+
+unfoldable pub part? : Mode → List Token → Parsed Part
+part? mode ts = head? ts andThen λ r us. cond (is r "part") (body? mode us) none
+
+-- a hold of these parts
+abbrev pub holdRecord : Mode → ℕ → List Part → Hold
+holdRecord mode factor ps =
+    record { head = record { mode = mode; factor = factor; count = length ps }; parts = padded 6 noPart ps }
 
 -- `SF PART ..)` behind the mode, with one to six parts
 unfoldable pub parts? : ℕ → Mode → List Token → Parsed Request
 parts? n mode ts =
     number? ts andThen λ factor us.
-    several? 5 (part? mode) us andThen λ ps ws.
-    got (holdRequest n (record { head = record { mode = mode; factor = factor; count = length ps }; parts = padded 6 noPart ps })) ws
+    several? 6 (part? mode) us andThen λ ps ws.
+    got (holdRequest n (holdRecord mode factor ps)) ws
 
 -- `N MODE ..` behind `(hold`
 unfoldable pub hold? : List Token → Parsed Request
 hold? ts =
     number? ts andThen λ n us.
-    orElse (word? "trimmed" us andThen λ u ws. parts? n Trimmed ws)
-    (orElse (word? "voided" us andThen λ u ws. parts? n Voided ws)
-    (word? "partial" us andThen λ u ws. parts? n Partial ws))
+    run? us andThen λ r ws.
+    cond (is r "trimmed") (parts? n Trimmed ws)
+    (cond (is r "voided") (parts? n Voided ws)
+    (cond (is r "partial") (parts? n Partial ws) none))
 
 -- `N)` behind `(drop`
 unfoldable pub drop? : List Token → Parsed Request
 drop? ts = number? ts andThen λ n us. close? us andThen λ u ws. got (plain (DropLine n)) ws
 
 -- `)` behind `(judge` and `(clear`
-abbrev pub bare? : Kind → List Token → Parsed Request
+unfoldable pub bare? : Kind → List Token → Parsed Request
 bare? k ts = close? ts andThen λ u us. got (plain k) us
 
 -- a form, by its first word
 unfoldable pub form? : List Token → Parsed Request
 form? ts =
-    open? ts andThen λ u us.
-    orElse (word? "ship" us andThen λ u ws. ship? ws)
-    (orElse (word? "column" us andThen λ u ws. column? ws)
-    (orElse (word? "load" us andThen λ u ws. load? ws)
-    (orElse (word? "hold" us andThen λ u ws. hold? ws)
-    (orElse (word? "drop" us andThen λ u ws. drop? ws)
-    (orElse (word? "judge" us andThen λ u ws. bare? JudgeLine ws)
-    (word? "clear" us andThen λ u ws. bare? ClearLine ws))))))
+    head? ts andThen λ r us.
+    cond (is r "ship") (ship? us)
+    (cond (is r "column") (column? us)
+    (cond (is r "load") (load? us)
+    (cond (is r "hold") (hold? us)
+    (cond (is r "drop") (drop? us)
+    (cond (is r "judge") (bare? JudgeLine us)
+    (cond (is r "clear") (bare? ClearLine us) none))))))
 
 -- the request of a line's tokens
 unfoldable pub requestOf : List Token → Request

@@ -1,16 +1,17 @@
 -- Laws of tokens, and of the test that every number is sound.
-use mathlib.Core.Path.{_≡_, refl, _∙_, ap}
-use mathlib.Core.Bool.{Bool, true, false, cond, _&&_}
+use mathlib.Core.Path.{_≡_, refl, sym, _∙_, ap}
+use mathlib.Core.Bool.{Bool, true, false, cond, _&&_, _||_}
 use mathlib.Core.List.{List, [], _∷_}
-use Prim.Native.Nat.{ℕ, suc, _+_, _≤_, _<_}
+use Prim.Native.Nat.{ℕ, suc, _+_, _-_, _≤_, _<_}
 use native.Mathlib.Omega.{arith}
-use lib.Dec.{eqb}
+use lib.Dec.{eqb, leb}
 use lib.ListN.{length, getD, take, drop, length-drop}
-use lib.Seq.{drop-drop, length-take-le}
-use Rattle.whole.specs.Lists.{all}
-use Rattle.text.specs.Token.{opened, closed, run, opening, closing, inRun, startsRun, glue, tokens}
+use lib.Seq.{drop-drop, length-take-le, getD-drop}
+use Rattle.whole.specs.Lists.{all, within}
+use borrow.Author.Tests.{ne-eqb, eq-eqb, leb-true, leb-false}
+use Rattle.text.specs.Token.{opened, closed, run, opening, closing, inRun, startsRun, glue, tokens, same}
 use Rattle.text.specs.Line.{numberIfDigit, soundToken}
-use Rattle.text.specs.Places.{runLength}
+use Rattle.text.specs.Places.{runLength, startsToken, gap}
 use Rattle.whole.proofs.Lists.{drop-next, drop-end}
 
 no-run : (s : List ℕ) → startsRun s ≡ false → runLength s ≡ 0
@@ -90,3 +91,114 @@ passes s i r p q e =
       good = λ g. sound-run s i p q ∙ rw (← e, g, n) (ap sound (drop-drop (runLength (drop i s)) i s));
       bad = λ g. sound-run s i p q ∙ rw (← e, g);
     }
+
+-- ---- two runs, compared byte by byte
+module _ (a b : List ℕ) (i : ℕ) where
+  same-end : length a ≤ i → length b ≤ i → same (drop i a) (drop i b) ≡ true
+  unfolding same
+  same-end p q = rw (drop-end a i 0 p, drop-end b i 0 q)
+
+  same-long : length a ≤ i → i < length b → same (drop i a) (drop i b) ≡ false
+  unfolding same
+  same-long p q = rw (drop-end a i 0 p, drop-next b i 0 q)
+
+  last-by : (x : Bool) → leb (length b) i ≡ x → length a ≤ i → same (drop i a) (drop i b) ≡ x
+  last-by true e p = same-end p (leb-true (length b) i e)
+  last-by false e p = same-long p (leb-false (length b) i e)
+
+  -- where the first ends, they are the same if the second ends there too
+  pub same-last : length a ≤ i → same (drop i a) (drop i b) ≡ leb (length b) i
+  same-last p = last-by (leb (length b) i) refl p
+
+  module _ (p : i < length a) where
+    pub same-short : length b ≤ i → same (drop i a) (drop i b) ≡ false
+    unfolding same
+    same-short q = rw (drop-next a i 0 p, drop-end b i 0 q)
+
+    module _ (q : i < length b) where
+      pub same-not : (getD a i 0 ≡ getD b i 0 → ⊥) → same (drop i a) (drop i b) ≡ false
+      unfolding same
+      same-not e = rw (drop-next a i 0 p, drop-next b i 0 q, ne-eqb _ _ e)
+
+      pub same-more : getD a i 0 ≡ getD b i 0 → same (drop i a) (drop i b) ≡ same (drop (i + 1) a) (drop (i + 1) b)
+      unfolding same
+      same-more e = rw (drop-next a i 0 p, drop-next b i 0 q, eq-eqb _ _ e)
+
+-- ---- the way to the next token
+module _ (s : List ℕ) (i : ℕ) where
+  pub gap-out : length s ≤ i → gap (drop i s) ≡ 0
+  unfolding gap
+  gap-out p = rw (drop-end s i 0 p)
+
+  pub tokens-out : length s ≤ i → tokens (drop i s) ≡ []
+  unfolding tokens
+  tokens-out p = rw (drop-end s i 0 p)
+
+  module _ (p : i < length s) where
+    pub gap-on : startsToken (getD s i 0) ≡ false → gap (drop i s) ≡ suc (gap (drop (i + 1) s))
+    unfolding gap
+    gap-on e = rw (drop-next s i 0 p, e)
+
+    pub gap-off : startsToken (getD s i 0) ≡ true → gap (drop i s) ≡ 0
+    unfolding gap
+    gap-off e = rw (drop-next s i 0 p, e)
+
+    pub tokens-open : getD s i 0 ≡ 40 → tokens (drop i s) ≡ opened ∷ tokens (drop (i + 1) s)
+    unfolding tokens within
+    tokens-open e = rw (drop-next s i 0 p, e)
+
+    pub tokens-close : getD s i 0 ≡ 41 → tokens (drop i s) ≡ closed ∷ tokens (drop (i + 1) s)
+    unfolding tokens within
+    tokens-close e = rw (drop-next s i 0 p, e)
+
+-- bytes that begin no token change nothing
+no-token : (b : ℕ) (s : List ℕ) (x y z : Bool) → inRun b ≡ x → eqb b 40 ≡ y → eqb b 41 ≡ z → (x || y || z) ≡ false → tokens (b ∷ s) ≡ tokens s
+unfolding tokens
+no-token b s false false false e f g h = rw (e, f, g)
+no-token b s true y z e f g h = let w : _≡_ {A = ℕ} 0 1 = cc in absurd (omega arith)
+no-token b s false true z e f g h = let w : _≡_ {A = ℕ} 0 1 = cc in absurd (omega arith)
+no-token b s false false true e f g h = let w : _≡_ {A = ℕ} 0 1 = cc in absurd (omega arith)
+
+gap-by : (b : ℕ) (s : List ℕ) (x : Bool) → startsToken b ≡ x → tokens s ≡ tokens (drop (gap s) s) → tokens (b ∷ s) ≡ tokens (drop (cond x 0 (suc (gap s))) (b ∷ s))
+gap-by b s true e ih = refl
+gap-by b s false e ih = no-token b s (inRun b) (eqb b 40) (eqb b 41) refl refl refl e ∙ ih
+
+over-gap : (l : List ℕ) → tokens l ≡ tokens (drop (gap l) l)
+unfolding gap
+over-gap [] = refl
+over-gap (b ∷ s) = gap-by b s (startsToken b) refl (over-gap s)
+
+-- a token begins behind the gap
+stop-by : (b : ℕ) (s : List ℕ) (x : Bool) → startsToken b ≡ x → (gap s < length s → startsToken (getD s (gap s) 0) ≡ true) → cond x 0 (suc (gap s)) < suc (length s) → startsToken (getD (b ∷ s) (cond x 0 (suc (gap s))) 0) ≡ true
+stop-by b s true e ih p = e
+stop-by b s false e ih p = ih (omega arith)
+
+gap-stop : (l : List ℕ) → gap l < length l → startsToken (getD l (gap l) 0) ≡ true
+unfolding gap
+gap-stop [] p = absurd (omega arith)
+gap-stop (b ∷ s) p = stop-by b s (startsToken b) refl (gap-stop s) p
+
+in-run-else : (b : ℕ) → startsToken b ≡ true → (b ≡ 40 → ⊥) → (b ≡ 41 → ⊥) → inRun b ≡ true
+in-run-else b e p q = by (inRun b) (eqb b 40) (eqb b 41) (ne-eqb b 40 p) (ne-eqb b 41 q) e
+  where
+    by : (x y z : Bool) → y ≡ false → z ≡ false → (x || y || z) ≡ true → x ≡ true
+    by true y z f g h = refl
+    by false true z f g h = sym f
+    by false false z f g h = sym g ∙ h
+
+module _ (s : List ℕ) (at p : ℕ) (there : p ≡ at + gap (drop at s)) where
+  pub to-token : tokens (drop at s) ≡ tokens (drop p s)
+  to-token = over-gap (drop at s) ∙ ap tokens (drop-drop (gap (drop at s)) at s ∙ rw (← there))
+
+  module _ (h : p < length s) where
+    starts-there : startsToken (getD s p 0) ≡ true
+    starts-there =
+        let n = length-drop at s in
+        rw (there, ← getD-drop at s (gap (drop at s)) 0) (gap-stop (drop at s) (omega arith))
+
+    pub to-run : (q : ℕ) → (getD s p 0 ≡ 40 → ⊥) → (getD s p 0 ≡ 41 → ⊥) → q ≡ p + runLength (drop p s) → tokens (drop at s) ≡ run (take (q - p) (drop p s)) ∷ tokens (drop q s)
+    to-run q x y e =
+        let f : startsRun (drop p s) ≡ true = rw (drop-next s p 0 h) (in-run-else (getD s p 0) starts-there x y) in
+        let n : q - p ≡ runLength (drop p s) = omega arith in
+        let d : drop (runLength (drop p s)) (drop p s) ≡ drop q s = drop-drop (runLength (drop p s)) p s ∙ rw (← e) in
+        to-token ∙ run-token (drop p s) f ∙ rw (n, d)

@@ -1,14 +1,18 @@
 -- Places of a line, as the reader carries them from step to step. The laws lead from them to the definitions of Token and Line.
-use mathlib.Core.Bool.{Bool, true, false, cond, _&&_}
+use mathlib.Core.Path.{_≡_}
+use mathlib.Core.Bool.{Bool, true, false, cond, _&&_, _||_}
 use mathlib.Core.List.{List, [], _∷_}
-use Prim.Native.Nat.{ℕ, suc, _+_, _-_}
+use Prim.Native.Nat.{ℕ, suc, _+_, _-_, _≤_}
 use lib.Dec.{eqb, leb}
+use lib.ListN.{length, take, drop}
 use Rattle.text.specs.declared.Closed.{Closed}
 use Rattle.text.specs.declared.Closed.the-variants.{At, Nowhere}
 use Rattle.whole.specs.Lists.{all}
 use Rattle.text.specs.declared.Number.{Number}
 use Rattle.text.specs.declared.Number.the-variants.{Is, Bad}
-use Rattle.text.specs.Token.{space, opening, closing, isDigit, inRun, valueFrom}
+use Rattle.text.specs.declared.Next.{Next}
+use Rattle.text.specs.declared.Next.the-variants.{Open, Close, Run, End}
+use Rattle.text.specs.Token.{space, opening, closing, isDigit, inRun, valueFrom, opened, closed, run, tokens}
 
 -- how many spaces stand in front
 unfoldable pub spaces : List ℕ → ℕ
@@ -32,3 +36,19 @@ runLength (b ∷ s) = cond (inRun b) (suc (runLength s)) 0
 -- the number that digits say behind the value v, a zero in front or not
 unfoldable pub digitsFrom : ℕ → List ℕ → Number
 digitsFrom v s = cond (all isDigit s && leb (valueFrom v s) 999999999) (Is (valueFrom v s)) Bad
+
+-- a token begins at this byte
+abbrev pub startsToken : ℕ → Bool
+startsToken b = inRun b || eqb b opening || eqb b closing
+
+-- how many bytes in front begin no token: spaces, and what no line may have
+unfoldable pub gap : List ℕ → ℕ
+gap [] = 0
+gap (b ∷ s) = cond (startsToken b) 0 (suc (gap s))
+
+-- the next token from the place p of a line on; what is left of the line starts behind it
+abbrev pub NextIs : List ℕ → ℕ → Next → Type 0
+NextIs s p (Open q) = (tokens (drop p s) ≡ opened ∷ tokens (drop q s)) × (q ≤ length s)
+NextIs s p (Close q) = (tokens (drop p s) ≡ closed ∷ tokens (drop q s)) × (q ≤ length s)
+NextIs s p (Run a q) = (tokens (drop p s) ≡ run (take (q - a) (drop a s)) ∷ tokens (drop q s)) × (a ≤ q) × (q ≤ length s)
+NextIs s p End = tokens (drop p s) ≡ []

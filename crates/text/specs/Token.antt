@@ -55,6 +55,13 @@ unfoldable pub tokens : List ℕ → List Token
 tokens [] = []
 tokens (b ∷ s) = tokensWith b s (tokens s)
 
+-- the same bytes
+unfoldable pub same : List ℕ → List ℕ → Bool
+same [] [] = true
+same [] (y ∷ ys) = false
+same (x ∷ xs) [] = false
+same (x ∷ xs) (y ∷ ys) = eqb x y && same xs ys
+
 -- the value of digits, read behind the value v
 unfoldable pub valueFrom : ℕ → List ℕ → ℕ
 valueFrom v [] = v

@@ -1,12 +1,13 @@
 // A line's bytes, brackets, runs and numbers: codes 10 to 13.
 ghost use mathlib.Core.Path.{_≡_};
 ghost use mathlib.Core.Bool.{_&&_, _||_};
-ghost use Prim.Native.Nat.{ℕ, _+_, _≤_, _<_};
+ghost use Prim.Native.Nat.{ℕ, _+_, _-_, _≤_, _<_};
 ghost use lib.ListN.{length, getD, take, drop};
 ghost use Rattle.whole.specs.Lists.{all, within};
 ghost use Rattle.text.specs.Token.{isDigit, inRun, numberOf, tokens};
+ghost use Rattle.text.specs.Token.{same as Token·same};
 ghost use Rattle.text.specs.Line.{allowed, oneForm, numberIfDigit, soundToken, readingOf};
-ghost use Rattle.text.specs.Places.{spaces, closeAt, runLength, digitsFrom};
+ghost use Rattle.text.specs.Places.{spaces, closeAt, runLength, digitsFrom, startsToken, gap, NextIs};
 
 // What the tests of a whole line find, in their order.
 pub enum Reading {
@@ -27,6 +28,14 @@ pub enum Number {
 pub enum Closed {
     At(usize),
     Nowhere,
+}
+
+// What stands next in a line: a bracket and the place behind it, a run from a place to a place, or nothing more.
+pub enum Next {
+    Open(usize),
+    Close(usize),
+    Run(usize, usize),
+    End,
 }
 
 fn both(a: bool, b: bool) -> bool
@@ -253,4 +262,70 @@ pub fn reading_of(line: &[u8]) -> Reading
         return Reading::BadNumber;
     }
     Reading::Sound
+}
+
+// Whether two runs have the same bytes.
+pub fn same(a: &[u8], b: &[u8]) -> bool
+    ensures { λ r. ⌜ r ≡ Token·same (now (a .entry)) (now (b .entry)) ⌝ }
+{
+    let mut i = 0;
+    while i < a.len() {
+        if b.len() <= i {
+            return false;
+        }
+        if a[i] != b[i] {
+            return false;
+        }
+        i += 1;
+    }
+    b.len() <= i
+}
+
+fn starts_token(b: u8) -> bool
+    ensures { λ r. ⌜ r ≡ startsToken b ⌝ }
+{
+    either(either(in_run(b), b == 40), b == 41)
+}
+
+// The place of the next token, or the end of the line.
+fn token_at(s: &[u8], at: usize) -> usize
+    requires { ⌜ at ≤ length (now s) ⌝ }
+    ensures { λ r. ⌜ (r ≡ at + gap (drop at (now (s .entry)))) × (r ≤ length (now (s .entry))) ⌝ }
+{
+    let mut i = at;
+    while i < s.len() {
+        if starts_token(s[i]) {
+            return i;
+        }
+        i += 1;
+    }
+    i
+}
+
+// The next token from `at` on.
+pub fn next_at(s: &[u8], at: usize) -> Next
+    requires { ⌜ at ≤ length (now s) ⌝ }
+    ensures { λ r. ⌜ NextIs (now (s .entry)) at r ⌝ }
+{
+    let p = token_at(s, at);
+    if s.len() <= p {
+        return Next::End;
+    }
+    let b = s[p];
+    if b == 40 {
+        return Next::Open(p + 1);
+    }
+    if b == 41 {
+        return Next::Close(p + 1);
+    }
+    let q = run_end(s, p);
+    Next::Run(p, q)
+}
+
+// The run from a place to a place: the very bytes of the line.
+pub fn run_of<'a>(s: &'a [u8], from: usize, to: usize) -> &'a [u8]
+    requires { ⌜ (from ≤ to) × (to ≤ length (now s)) ⌝ }
+    ensures { λ r. ⌜ now r ≡ take (to - from) (drop from (now (s .entry))) ⌝ }
+{
+    &s[from..to]
 }

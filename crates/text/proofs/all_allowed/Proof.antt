@@ -26,7 +26,11 @@ is-allowed-requires : tie.Need-is-allowed-requires Inv-loop μ-loop
 is-allowed-requires c κs = search needs
 
 returns : tie.Need-returns Inv-loop μ-loop
-returns c = let h = c .before .before .before .before in let s = h .before .before .args .s .now in let i = h .loop .i in all-stop allowed s i 0 (h .loop .inv .1) (search needs) (sym (c .before .is-allowed .ensures) ∙ not-true _ (c .if1 .taken))
+returns c =
+    let h = c .before .before .before .before in
+    let s = h .before .before .args .s .now in
+    let i = h .loop .i in
+    all-stop allowed s i 0 (h .loop .inv .1) (search needs) (sym (c .before .is-allowed .ensures) ∙ not-true _ (c .if1 .taken))
 
 add-i : tie.Need-add-i Inv-loop μ-loop
 add-i c = search needs
@@ -35,10 +39,18 @@ loop-less : tie.Need-loop-less Inv-loop μ-loop
 loop-less c = search needs
 
 loop-again : tie.Need-loop-again Inv-loop μ-loop
-loop-again c = let h = c .before .before .before .before in let s = h .before .before .args .s .now in let i = h .loop .i in (omega arith, all-go allowed s i 0 (h .loop .inv .1) (search needs) (sym (c .before .is-allowed .ensures) ∙ not-false _ (c .if1 .left)))
+loop-again c =
+    let h = c .before .before .before .before in
+    let s = h .before .before .args .s .now in
+    let i = h .loop .i in
+    (omega arith, all-go allowed s i 0 (h .loop .inv .1) (search needs) (sym (c .before .is-allowed .ensures) ∙ not-false _ (c .if1 .left)))
 
 returns-2 : tie.Need-returns-2 Inv-loop μ-loop
-returns-2 c = let h = c .before in let s = h .before .before .args .s .now in let i = h .loop .i in all-done allowed s i 0 (h .loop .inv .1) (search needs)
+returns-2 c =
+    let h = c .before in
+    let s = h .before .before .args .s .now in
+    let i = h .loop .i in
+    all-done allowed s i 0 (h .loop .inv .1) (search needs)
 
 pub all-allowed-spec : {M : Type 1} → statement M
 all-allowed-spec =

@@ -30,16 +30,36 @@ is-sound-requires : tie.Need-is-sound-requires Inv-loop μ-loop
 is-sound-requires c κs = search needs
 
 returns : tie.Need-returns Inv-loop μ-loop
-returns c = let h = c .before .before .before .before .before .before .before in let s = h .before .before .args .s .now in let i = h .loop .i in let w = passes s i (c .before .before .run-at .result .now) (search needs) (sym (c .before .before .before .before .in-run .ensures) ∙ c .before .before .before .if1 .taken) (c .before .before .run-at .ensures) in sym (w .bad (sym (c .before .is-sound .ensures) ∙ not-true _ (c .if2 .taken))) ∙ h .loop .inv .1
+returns c =
+    let h = c .before .before .before .before .before .before .before in
+    let s = h .before .before .args .s .now in
+    let i = h .loop .i in
+    let w = passes s i (c .before .before .run-at .result .now) (search needs) (sym (c .before .before .before .before .in-run .ensures) ∙ c .before .before .before .if1 .taken) (c .before .before .run-at .ensures) in
+    sym (w .bad (sym (c .before .is-sound .ensures) ∙ not-true _ (c .if2 .taken))) ∙ h .loop .inv .1
 
 add-i : tie.Need-add-i Inv-loop μ-loop
-add-i c = let h = c .before .before .before .before .before .before .before in let s = h .before .before .args .s .now in let i = h .loop .i in let w = passes s i (c .before .before .run-at .result .now) (search needs) (sym (c .before .before .before .before .in-run .ensures) ∙ c .before .before .before .if1 .taken) (c .before .before .run-at .ensures) in search needs
+add-i c =
+    let h = c .before .before .before .before .before .before .before in
+    let s = h .before .before .args .s .now in
+    let i = h .loop .i in
+    let w = passes s i (c .before .before .run-at .result .now) (search needs) (sym (c .before .before .before .before .in-run .ensures) ∙ c .before .before .before .if1 .taken) (c .before .before .run-at .ensures) in
+    search needs
 
 loop-less : tie.Need-loop-less Inv-loop μ-loop
-loop-less c = let h = c .before .before .before .before .before .before .before in let s = h .before .before .args .s .now in let i = h .loop .i in let w = passes s i (c .before .before .run-at .result .now) (search needs) (sym (c .before .before .before .before .in-run .ensures) ∙ c .before .before .before .if1 .taken) (c .before .before .run-at .ensures) in search needs
+loop-less c =
+    let h = c .before .before .before .before .before .before .before in
+    let s = h .before .before .args .s .now in
+    let i = h .loop .i in
+    let w = passes s i (c .before .before .run-at .result .now) (search needs) (sym (c .before .before .before .before .in-run .ensures) ∙ c .before .before .before .if1 .taken) (c .before .before .run-at .ensures) in
+    search needs
 
 loop-again : tie.Need-loop-again Inv-loop μ-loop
-loop-again c = let h = c .before .before .before .before .before .before .before in let s = h .before .before .args .s .now in let i = h .loop .i in let w = passes s i (c .before .before .run-at .result .now) (search needs) (sym (c .before .before .before .before .in-run .ensures) ∙ c .before .before .before .if1 .taken) (c .before .before .run-at .ensures) in (omega (arith, w .short), sym (w .good (sym (c .before .is-sound .ensures) ∙ not-false _ (c .if2 .left))) ∙ h .loop .inv .1)
+loop-again c =
+    let h = c .before .before .before .before .before .before .before in
+    let s = h .before .before .args .s .now in
+    let i = h .loop .i in
+    let w = passes s i (c .before .before .run-at .result .now) (search needs) (sym (c .before .before .before .before .in-run .ensures) ∙ c .before .before .before .if1 .taken) (c .before .before .run-at .ensures) in
+    (omega (arith, w .short), sym (w .good (sym (c .before .is-sound .ensures) ∙ not-false _ (c .if2 .left))) ∙ h .loop .inv .1)
 
 add-i-2 : tie.Need-add-i-2 Inv-loop μ-loop
 add-i-2 c = search needs
@@ -48,10 +68,17 @@ loop-less-2 : tie.Need-loop-less-2 Inv-loop μ-loop
 loop-less-2 c = search needs
 
 loop-again-2 : tie.Need-loop-again-2 Inv-loop μ-loop
-loop-again-2 c = let h = c .before .before .before .before in let s = h .before .before .args .s .now in let i = h .loop .i in (omega arith, sym (sound-other s i (search needs) (sym (c .before .in-run .ensures) ∙ c .if1 .left)) ∙ h .loop .inv .1)
+loop-again-2 c =
+    let h = c .before .before .before .before in
+    let s = h .before .before .args .s .now in
+    let i = h .loop .i in
+    (omega arith, sym (sound-other s i (search needs) (sym (c .before .in-run .ensures) ∙ c .if1 .left)) ∙ h .loop .inv .1)
 
 returns-2 : tie.Need-returns-2 Inv-loop μ-loop
-returns-2 c = let h = c .before in let s = h .before .before .args .s .now in sym (sound-end s (h .loop .i) (search needs)) ∙ h .loop .inv .1
+returns-2 c =
+    let h = c .before in
+    let s = h .before .before .args .s .now in
+    sym (sound-end s (h .loop .i) (search needs)) ∙ h .loop .inv .1
 
 pub all-sound-spec : {M : Type 1} → statement M
 all-sound-spec =

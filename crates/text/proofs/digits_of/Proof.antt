@@ -26,7 +26,12 @@ is-digit-requires : tie.Need-is-digit-requires Inv-loop μ-loop
 is-digit-requires c κs = search needs
 
 returns : tie.Need-returns Inv-loop μ-loop
-returns c = let h = c .before .before .before .before in let s = h .before .before .args .run .now in let i = h .loop .i in let v = h .loop .v in sym (digits-bad s i (search needs) v (sym (c .before .is-digit .ensures) ∙ not-true _ (c .if1 .taken))) ∙ h .loop .inv .2
+returns c =
+    let h = c .before .before .before .before in
+    let s = h .before .before .args .run .now in
+    let i = h .loop .i in
+    let v = h .loop .v in
+    sym (digits-bad s i (search needs) v (sym (c .before .is-digit .ensures) ∙ not-true _ (c .if1 .taken))) ∙ h .loop .inv .2
 
 mul-w : tie.Need-mul-w Inv-loop μ-loop
 mul-w c = search needs
@@ -41,7 +46,12 @@ add-w : tie.Need-add-w Inv-loop μ-loop
 add-w c = let d = within-true 48 57 _ (sym (c .before .is-digit .ensures) ∙ not-false _ (c .if1 .left)) in search needs
 
 returns-2 : tie.Need-returns-2 Inv-loop μ-loop
-returns-2 c = let h = c .before .before .before .before .before in let s = h .before .before .args .run .now in let i = h .loop .i in let v = h .loop .v in sym (digits-large s i (search needs) v (sym (c .before .before .is-digit .ensures) ∙ not-false _ (c .before .if1 .left)) (search needs)) ∙ h .loop .inv .2
+returns-2 c =
+    let h = c .before .before .before .before .before in
+    let s = h .before .before .args .run .now in
+    let i = h .loop .i in
+    let v = h .loop .v in
+    sym (digits-large s i (search needs) v (sym (c .before .before .is-digit .ensures) ∙ not-false _ (c .before .if1 .left)) (search needs)) ∙ h .loop .inv .2
 
 add-i : tie.Need-add-i Inv-loop μ-loop
 add-i c = search needs
@@ -50,13 +60,21 @@ loop-less : tie.Need-loop-less Inv-loop μ-loop
 loop-less c = search needs
 
 loop-again : tie.Need-loop-again Inv-loop μ-loop
-loop-again c = let h = c .before .before .before .before .before in let s = h .before .before .args .run .now in let i = h .loop .i in let v = h .loop .v in (omega arith, omega arith, sym (digits-on s i (search needs) v (sym (c .before .before .is-digit .ensures) ∙ not-false _ (c .before .if1 .left))) ∙ h .loop .inv .2)
+loop-again c =
+    let h = c .before .before .before .before .before in
+    let s = h .before .before .args .run .now in
+    let i = h .loop .i in
+    let v = h .loop .v in
+    (omega arith, omega arith, sym (digits-on s i (search needs) v (sym (c .before .before .is-digit .ensures) ∙ not-false _ (c .before .if1 .left))) ∙ h .loop .inv .2)
 
 cast-t13 : tie.Need-cast-t13 Inv-loop μ-loop
 cast-t13 c = search needs
 
 returns-3 : tie.Need-returns-3 Inv-loop μ-loop
-returns-3 c = let h = c .before in let s = h .before .before .args .run .now in sym (digits-out s (h .loop .i) (h .loop .v) (h .loop .inv .1) (search needs)) ∙ h .loop .inv .2
+returns-3 c =
+    let h = c .before in
+    let s = h .before .before .args .run .now in
+    sym (digits-out s (h .loop .i) (h .loop .v) (h .loop .inv .1) (search needs)) ∙ h .loop .inv .2
 
 pub digits-of-spec : {M : Type 1} → statement M
 digits-of-spec =

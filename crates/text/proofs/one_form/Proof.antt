@@ -30,13 +30,23 @@ enum-told : tie.Need-enum-told
 enum-told c = search needs
 
 returns-3 : tie.Need-returns-3
-returns-3 c = let s = c .before .before .before .before .before .before .before .before .args .s .now in let r = sym (c .before .before .close-at .ensures) ∙ c .enum-told .given .1 in sym (form-from s _ (c .before .before .before .before .before .before .skip .ensures .0) (search needs) 3 (c .before .before .before .if2 .left) ∙ ap (afterClose 4 s) r)
+returns-3 c =
+    let s = c .before .before .before .before .before .before .before .before .args .s .now in
+    let r = sym (c .before .before .close-at .ensures) ∙ c .enum-told .given .1 in
+    sym (form-from s _ (c .before .before .before .before .before .before .skip .ensures .0) (search needs) 3 (c .before .before .before .if2 .left) ∙ ap (afterClose 4 s) r)
 
 skip-requires-2 : tie.Need-skip-requires-2
-skip-requires-2 c κs = let s = c .before .before .before .before .before .before .before .before .before .args .s .now in let r = sym (c .before .before .before .close-at .ensures) ∙ c .before .j .given .1 in placed s (c .before .before .before .before .before .before .before .skip .result) 4 _ (search needs) r .1
+skip-requires-2 c κs =
+    let s = c .before .before .before .before .before .before .before .before .before .args .s .now in
+    let r = sym (c .before .before .before .close-at .ensures) ∙ c .before .j .given .1 in
+    placed s (c .before .before .before .before .before .before .before .skip .result) 4 _ (search needs) r .1
 
 returns-4 : tie.Need-returns-4
-returns-4 c = let s = c .before .before .before .before .before .before .before .before .before .before .args .s .now in let i = c .before .before .before .before .before .before .before .before .skip .result in let r = sym (c .before .before .before .before .close-at .ensures) ∙ c .before .before .j .given .1 in sym (form-from s i (c .before .before .before .before .before .before .before .before .skip .ensures .0) (search needs) 3 (c .before .before .before .before .before .if2 .left) ∙ ap (afterClose 4 s) r ∙ ends-there 4 s _ (c .skip2 .result) (placed s i 4 _ (search needs) r .1) (c .skip2 .ensures .0))
+returns-4 c =
+    let s = c .before .before .before .before .before .before .before .before .before .before .args .s .now in
+    let i = c .before .before .before .before .before .before .before .before .skip .result in
+    let r = sym (c .before .before .before .before .close-at .ensures) ∙ c .before .before .j .given .1 in
+    sym (form-from s i (c .before .before .before .before .before .before .before .before .skip .ensures .0) (search needs) 3 (c .before .before .before .before .before .if2 .left) ∙ ap (afterClose 4 s) r ∙ ends-there 4 s _ (c .skip2 .result) (placed s i 4 _ (search needs) r .1) (c .skip2 .ensures .0))
 
 pub one-form-spec : {M : Type 1} → statement M
 one-form-spec =

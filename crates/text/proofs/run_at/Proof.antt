@@ -20,7 +20,11 @@ part-result-end : tie.Need-part-result-end
 part-result-end c = search needs
 
 returns : tie.Need-returns
-returns c = let s = c .before .before .before .args .s .now in let a = c .before .before .before .args .at in let q : c .before .run-end .result - a ≡ runLength (drop a s) = omega (arith, c .before .run-end .ensures .0) in rw q
+returns c =
+    let s = c .before .before .before .args .s .now in
+    let a = c .before .before .before .args .at in
+    let q : c .before .run-end .result - a ≡ runLength (drop a s) = omega (arith, c .before .run-end .ensures .0) in
+    rw q
 
 pub run-at-spec : {M : Type 1} → statement M
 run-at-spec =

@@ -25,7 +25,12 @@ in-run-requires : tie.Need-in-run-requires Inv-loop μ-loop
 in-run-requires c κs = search needs
 
 returns : tie.Need-returns Inv-loop μ-loop
-returns c = let h = c .before .before .before .before in let s = h .before .before .args .s .now in let i = h .loop .i in let e = run-off s i (omega arith) (sym (c .before .in-run .ensures) ∙ not-true _ (c .if1 .taken)) in (omega arith, omega arith)
+returns c =
+    let h = c .before .before .before .before in
+    let s = h .before .before .args .s .now in
+    let i = h .loop .i in
+    let e = run-off s i (omega arith) (sym (c .before .in-run .ensures) ∙ not-true _ (c .if1 .taken)) in
+    (omega arith, omega arith)
 
 add-i : tie.Need-add-i Inv-loop μ-loop
 add-i c = search needs
@@ -34,10 +39,20 @@ loop-less : tie.Need-loop-less Inv-loop μ-loop
 loop-less c = search needs
 
 loop-again : tie.Need-loop-again Inv-loop μ-loop
-loop-again c = let h = c .before .before .before .before in let s = h .before .before .args .s .now in let i = h .loop .i in let e = run-on s i (omega arith) (sym (c .before .in-run .ensures) ∙ not-false _ (c .if1 .left)) in (omega arith, omega arith, omega arith)
+loop-again c =
+    let h = c .before .before .before .before in
+    let s = h .before .before .args .s .now in
+    let i = h .loop .i in
+    let e = run-on s i (omega arith) (sym (c .before .in-run .ensures) ∙ not-false _ (c .if1 .left)) in
+    (omega arith, omega arith, omega arith)
 
 returns-2 : tie.Need-returns-2 Inv-loop μ-loop
-returns-2 c = let h = c .before in let s = h .before .before .args .s .now in let i = h .loop .i in let e = run-out s i (omega arith) in (omega arith, omega arith)
+returns-2 c =
+    let h = c .before in
+    let s = h .before .before .args .s .now in
+    let i = h .loop .i in
+    let e = run-out s i (omega arith) in
+    (omega arith, omega arith)
 
 pub run-end-spec : {M : Type 1} → statement M
 run-end-spec =

@@ -21,7 +21,12 @@ shared-slice-read-if1 : tie.Need-shared-slice-read-if1 Inv-loop μ-loop
 shared-slice-read-if1 c = search needs
 
 returns : tie.Need-returns Inv-loop μ-loop
-returns c = let h = c .before .before .before in let s = h .before .args .s .now in let i = h .loop .i in let e = spaces-off s i (omega arith) (c .if1 .taken) in (omega arith, omega arith)
+returns c =
+    let h = c .before .before .before in
+    let s = h .before .args .s .now in
+    let i = h .loop .i in
+    let e = spaces-off s i (omega arith) (c .if1 .taken) in
+    (omega arith, omega arith)
 
 add-i : tie.Need-add-i Inv-loop μ-loop
 add-i c = search needs
@@ -30,10 +35,20 @@ loop-less : tie.Need-loop-less Inv-loop μ-loop
 loop-less c = search needs
 
 loop-again : tie.Need-loop-again Inv-loop μ-loop
-loop-again c = let h = c .before .before .before in let s = h .before .args .s .now in let i = h .loop .i in let e = spaces-on s i (omega arith) (c .if1 .left) in (omega arith, omega arith, omega arith)
+loop-again c =
+    let h = c .before .before .before in
+    let s = h .before .args .s .now in
+    let i = h .loop .i in
+    let e = spaces-on s i (omega arith) (c .if1 .left) in
+    (omega arith, omega arith, omega arith)
 
 returns-2 : tie.Need-returns-2 Inv-loop μ-loop
-returns-2 c = let h = c .before in let s = h .before .args .s .now in let i = h .loop .i in let e = spaces-out s i (omega arith) in (omega arith, omega arith)
+returns-2 c =
+    let h = c .before in
+    let s = h .before .args .s .now in
+    let i = h .loop .i in
+    let e = spaces-out s i (omega arith) in
+    (omega arith, omega arith)
 
 pub skip-spec : {M : Type 1} → statement M
 skip-spec =

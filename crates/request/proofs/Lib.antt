@@ -1,0 +1,5 @@
+pub mod Readings
+pub mod Records
+pub mod Kept
+pub mod Yields
+pub mod Tidy

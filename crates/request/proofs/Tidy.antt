@@ -1,0 +1,174 @@
+-- What the grammar yields: a hold whose unused fields are 0 and whose unused places are fillers, so that it is carried as it is
+-- within its limits; and its number of parts.
+use mathlib.Core.Path.{_≡_, refl, sym, _∙_}
+use mathlib.Core.Bool.{Bool, true}
+use mathlib.Core.List.{List, [], _∷_, _++_, map, map-map, map-id}
+use Prim.Native.Nat.{ℕ, zero, suc, _-_, _≤_}
+use native.Mathlib.Omega.{arith}
+use lib.ListN.{length, take, replicate, length-map}
+use lib.Seq.{take-at}
+use Rattle.whole.specs.Lists.{within, all}
+use Rattle.whole.proofs.Lists.{and-true}
+use Rattle.record.specs.declared.Ship.{Ship}
+use Rattle.record.specs.declared.Column.{Column}
+use Rattle.record.specs.declared.Cell.{Cell}
+use Rattle.record.specs.declared.Slot.{Slot}
+use Rattle.record.specs.declared.Mode.{Mode}
+use Rattle.record.specs.declared.Mode.the-variants.{Trimmed, Voided, Partial}
+use Rattle.record.specs.declared.Part.{Part}
+use Rattle.record.specs.Columns.{noColumn}
+use Rattle.record.specs.Limits.{cellsOf, sectionLimits, slackLimits, partLimits, holdLimits}
+use Rattle.record.specs.Filler.{noSlot, noPart, noHold, padded}
+use Rattle.text.specs.Token.{Token}
+use Rattle.request.specs.declared.Kind.{Kind}
+use Rattle.request.specs.declared.Kind.the-variants.{ShipLine, HoldLine, JudgeLine, ClearLine, NoShape}
+use Rattle.request.specs.declared.Request.{Request}
+use Rattle.request.specs.Grammar.{open?, close?, run?, head?, is, number?, lastNumbers?, several?}
+use Rattle.request.specs.Shape.{plain, sectionRecord, slackRecord, holdRecord, cell?, section?, slack?, body?, part?, parts?, hold?, ship?, column?, load?, drop?, bare?, form?, requestOf}
+use Rattle.request.specs.Carried.{carriedCell, carriedSlot, carriedPart, carriedHold}
+use Rattle.request.proofs.Yields.{Yields, yields, nothing, yields-with, yields-then, yields-if, yields-whole, Each, several-yield}
+use Rattle.request.proofs.Kept.{kept-within, kept-more, kept-section, kept-slack}
+
+-- ---- an array keeps its fillers if the filler is kept
+map-append : {A B : Type 0} (g : A → B) (xs ys : List A) → map g (xs ++ ys) ≡ map g xs ++ map g ys
+map-append g [] ys = refl
+map-append g (x ∷ xs) ys = rw (map-append g xs ys)
+
+module _ {A : Type 0} (g : A → A) (d : A) (same : g d ≡ d) where
+  kept-fillers : (n : ℕ) → map g (replicate n d) ≡ replicate n d
+  kept-fillers zero = refl
+  kept-fillers (suc n) = rw (same, kept-fillers n)
+
+  pub kept-padded : (n : ℕ) (l : List A) → map g l ≡ l → map g (padded n d l) ≡ padded n d l
+  unfolding padded
+  kept-padded n l e = map-append g l (replicate (n - length l) d) ∙ rw (e, kept-fillers (n - length l))
+
+pub padded-front : {A : Type 0} (n : ℕ) (d : A) (l : List A) (k : ℕ) → length l ≡ k → take k (padded n d l) ≡ l
+unfolding padded
+padded-front n d l k e = take-at l (replicate (n - length l) d) k e
+
+-- parts that are kept where they are within their limits are kept together
+kept-each : {A : Type 0} (f : A → Bool) (g : A → A) (l : List A) → Each (λ x. f x ≡ true → g x ≡ x) l → all f l ≡ true → map g l ≡ l
+kept-each f g [] p e = refl
+kept-each f g (x ∷ l) p e = kept-more f g x l (p .0) (kept-each f g l (p .1)) e
+
+-- ---- a part of cells: the cells that its limits test are those that were read
+abbrev inSlot : Cell → Slot
+inSlot c = record { cell = c }
+
+section-cells : (v : ℕ) (cs : List Cell) → cellsOf (sectionRecord v cs) ≡ cs
+section-cells v cs =
+    rw (padded-front 8 noSlot (map inSlot cs) (length cs) (length-map cs inSlot), map-map (λ (s : Slot). s .cell) inSlot cs) (map-id cs)
+
+kept-slots : (cs : List Cell) → map carriedCell cs ≡ cs → map carriedSlot (map inSlot cs) ≡ map inSlot cs
+kept-slots cs e = map-map carriedSlot inSlot cs ∙ sym (map-map inSlot carriedCell cs) ∙ rw e
+
+section-kept : (v : ℕ) (cs : List Cell) → sectionLimits (sectionRecord v cs) ≡ true → carriedPart (sectionRecord v cs) ≡ sectionRecord v cs
+section-kept v cs e =
+    let t = kept-section (sectionRecord v cs) e in
+    rw (t .0, kept-padded carriedSlot noSlot refl 8 (map inSlot cs) (kept-slots cs (rw (section-cells v cs) at (t .1))))
+
+slack-kept : (v : List ℕ) → slackLimits (slackRecord v) ≡ true → carriedPart (slackRecord v) ≡ slackRecord v
+slack-kept v e = kept-slack (slackRecord v) e (kept-padded carriedSlot noSlot refl 8 [] refl)
+
+-- ---- a part that is read, by its mode
+abbrev KeptPart : Mode → Part → Type 0
+KeptPart m p = partLimits m p ≡ true → carriedPart p ≡ p
+
+section-tidy : (ts : List Token) → Yields (λ p. sectionLimits p ≡ true → carriedPart p ≡ p) (section? ts)
+unfolding section?
+section-tidy ts = yields-then (number? ts) (λ v us. yields-then (several? 8 cell? us) (λ cs ws. yields (section-kept v cs)))
+
+body-tidy : (m : Mode) (ts : List Token) → Yields (KeptPart m) (body? m ts)
+unfolding body? slack?
+body-tidy Trimmed ts = section-tidy ts
+body-tidy Voided ts = section-tidy ts
+body-tidy Partial ts = yields-then (lastNumbers? 4 ts) (λ v us. yields (slack-kept v))
+
+part-tidy : (m : Mode) (ts : List Token) → Yields (KeptPart m) (part? m ts)
+unfolding part?
+part-tidy m ts = yields-then (head? ts) (λ r us. yields-if (is r "part") (body-tidy m us) nothing)
+
+-- ---- a hold of such parts
+hold-kept : (m : Mode) (factor : ℕ) (ps : List Part) → Each (KeptPart m) ps → holdLimits (holdRecord m factor ps) ≡ true → carriedHold (holdRecord m factor ps) ≡ holdRecord m factor ps
+unfolding holdLimits
+hold-kept m factor ps each e =
+    let front = padded-front 6 noPart ps (length ps) refl in
+    let inside = and-true (within 1 6 (length ps)) _ (rw front at e) in
+    let t = and-true (within 5000 40000 factor) (all (partLimits m) ps) (inside .1) in
+    let parts = kept-padded carriedPart noPart refl 6 ps (kept-each (partLimits m) carriedPart ps each (t .1)) in
+    rw (kept-within 5000 40000 factor (omega arith) (t .0), parts)
+
+-- ---- a request: its hold is kept within its limits, and a hold line has one to six parts
+record Tidy (r : Request) : Type 0 where
+  kept : holdLimits (r .hold) ≡ true → carriedHold (r .hold) ≡ r .hold
+  counted : (n : ℕ) → r .kind ≡ HoldLine n → (1 ≤ r .hold .head .count) × (r .hold .head .count ≤ 6)
+
+parts-tidy : (n : ℕ) (m : Mode) (ts : List Token) → Yields Tidy (parts? n m ts)
+unfolding parts?
+parts-tidy n m ts =
+    yields-then (number? ts)
+    (λ factor us. yields-with (several-yield (KeptPart m) (part? m) (part-tidy m) 6 us)
+    (λ ps ws s. yields (record { kept = hold-kept m factor ps (s .every); counted = λ k e. (s .some, s .most) })))
+
+hold-tidy : (ts : List Token) → Yields Tidy (hold? ts)
+unfolding hold?
+hold-tidy ts =
+    yields-then (number? ts) (λ n us. yields-then (run? us) (λ r ws.
+    yields-if (is r "trimmed") (parts-tidy n Trimmed ws)
+    (yields-if (is r "voided") (parts-tidy n Voided ws)
+    (yields-if (is r "partial") (parts-tidy n Partial ws) nothing))))
+
+-- ---- any other line has no hold
+unheld : (k : Kind) (c : Column) → ((n : ℕ) → k ≡ HoldLine n → _≡_ {A = ℕ} 0 1) → Tidy (record { kind = k; hold = noHold; column = c })
+unheld k c other = record { kept = λ e. refl; counted = λ n e. let z = other n e in absurd (omega arith) }
+
+ship-unheld : (s : Ship) → Tidy (plain (ShipLine s))
+ship-unheld s = unheld (ShipLine s) noColumn (λ n e. cc)
+
+ship-tidy : (ts : List Token) → Yields Tidy (ship? ts)
+unfolding ship?
+ship-tidy ts =
+    yields-then (run? ts) (λ r us. yields-then (lastNumbers? 2 us) (λ v ws.
+    yields-if (is r "new") (yields (ship-unheld _)) (yields-if (is r "old") (yields (ship-unheld _)) nothing)))
+
+column-tidy : (ts : List Token) → Yields Tidy (column? ts)
+unfolding column?
+column-tidy ts =
+    yields-then (number? ts) (λ d t1. yields-then (number? t1) (λ km t2. yields-then (open? t2) (λ u t3.
+    yields-then (lastNumbers? 10 t3) (λ kn t4. yields-then (close? t4) (λ u t5. yields (unheld _ _ (λ n e. cc)))))))
+
+load-tidy : (ts : List Token) → Yields Tidy (load? ts)
+unfolding load?
+load-tidy ts = yields-then (number? ts) (λ d us. yields-then (lastNumbers? 2 us) (λ v ws. yields (unheld _ _ (λ n e. cc))))
+
+drop-tidy : (ts : List Token) → Yields Tidy (drop? ts)
+unfolding drop?
+drop-tidy ts = yields-then (number? ts) (λ d us. yields-then (close? us) (λ u ws. yields (unheld _ _ (λ n e. cc))))
+
+bare-tidy : (k : Kind) → ((n : ℕ) → k ≡ HoldLine n → _≡_ {A = ℕ} 0 1) → (ts : List Token) → Yields Tidy (bare? k ts)
+unfolding bare?
+bare-tidy k other ts = yields-then (close? ts) (λ u us. yields (unheld k noColumn other))
+
+form-tidy : (ts : List Token) → Yields Tidy (form? ts)
+unfolding form?
+form-tidy ts =
+    yields-then (head? ts) (λ r us.
+    yields-if (is r "ship") (ship-tidy us)
+    (yields-if (is r "column") (column-tidy us)
+    (yields-if (is r "load") (load-tidy us)
+    (yields-if (is r "hold") (hold-tidy us)
+    (yields-if (is r "drop") (drop-tidy us)
+    (yields-if (is r "judge") (bare-tidy JudgeLine (λ n e. cc) us)
+    (yields-if (is r "clear") (bare-tidy ClearLine (λ n e. cc) us) nothing)))))))
+
+request-tidy : (ts : List Token) → Tidy (requestOf ts)
+unfolding requestOf
+request-tidy ts = yields-whole Tidy (plain NoShape) (form-tidy ts) (unheld NoShape noColumn (λ n e. cc))
+
+-- a hold that is read is carried as it is within its limits; a hold line has one to six parts
+pub kept-hold : (ts : List Token) → holdLimits (requestOf ts .hold) ≡ true → carriedHold (requestOf ts .hold) ≡ requestOf ts .hold
+kept-hold ts = request-tidy ts .kept
+
+pub hold-counts : (ts : List Token) (n : ℕ) → requestOf ts .kind ≡ HoldLine n → (1 ≤ requestOf ts .hold .head .count) × (requestOf ts .hold .head .count ≤ 6)
+hold-counts ts = request-tidy ts .counted

@@ -1,0 +1,51 @@
+use mathlib.Core.Path.{_∙_}
+use mathlib.Core.List.{map}
+use Prim.Native.Nat.{_-_}
+use native.Mathlib.Omega.{arith}
+use lib.ListN.{take, drop}
+use Rattle.text.specs.Token.{tokens}
+use Rattle.request.specs.Grammar.{lastNumbers?}
+use Rattle.request.specs.Carried.{carried, carriedPart}
+use Rattle.request.proofs.Readings.{ends-built, nth-kept}
+use Rattle.request.proofs.Records.{slack-kept}
+use Rattle.request.specs.Shape.{slack?, slackRecord}
+use borrow.Author.Needs.{needs}
+use Rattle.request.proofs.slack_at.Statement.{statement}
+use Rattle.request.proofs.slack_at.Tie as tie
+
+sizes-at-requires : tie.Need-sizes-at-requires
+sizes-at-requires c κs = search needs
+
+no-slot-requires : tie.Need-no-slot-requires
+no-slot-requires c κs = search needs
+
+array-read-t11 : tie.Need-array-read-t11
+array-read-t11 c = search needs
+
+array-read-t14 : tie.Need-array-read-t14
+array-read-t14 c = search needs
+
+array-read-t17 : tie.Need-array-read-t17
+array-read-t17 c = search needs
+
+array-read-t20 : tie.Need-array-read-t20
+array-read-t20 c = search needs
+
+returns : tie.Need-returns
+unfolding slack?
+returns c =
+    let v = c .before .before .sizes-at .result .values in
+    ends-built carriedPart slackRecord (lastNumbers? 4 (tokens (drop (c .before .before .before .before .args .at) (c .before .before .before .before .args .s .now)))) (c .before .before .before .before .args .s .now) _ (map carried) (take 4 v) (c .before .before .sizes-at .result .end) (c .before .before .sizes-at .ensures)
+    (λ x e. slack-kept x ∙ rw (c .no-slot .ensures, nth-kept 4 v x 0 e (omega arith), nth-kept 4 v x 1 e (omega arith), nth-kept 4 v x 2 e (omega arith), nth-kept 4 v x 3 e (omega arith)))
+
+pub slack-at-spec : {M : Type 1} → statement M
+slack-at-spec =
+    tie.close
+    (tie.spec
+    sizes-at-requires
+    no-slot-requires
+    array-read-t11
+    array-read-t14
+    array-read-t17
+    array-read-t20
+    returns)
