@@ -382,7 +382,7 @@ pub fn place_limits(n: u32) -> bool
 }
 
 // What unused places hold.
-pub fn no_slot() -> Slot
+fn no_slot() -> Slot
     ensures { λ r. ⌜ r ≡ noSlot ⌝ }
 {
     Slot {

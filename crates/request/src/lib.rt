@@ -429,8 +429,8 @@ fn cells_at(s: &[u8], at: usize) -> Cells
     requires { ⌜ at ≤ length (now s) ⌝ }
     ensures { λ r. ⌜ Fills (carry (map slotOf) (items? 8 cell? (tokens (drop at (now (s .entry)))))) (now (s .entry)) 8 noSlot (r .count) (r .slots) (r .end) ⌝ }
 {
-    let filler = record::no_slot();
-    let mut slots = [filler; 8];
+    let filler = record::no_part();
+    let mut slots = filler.cells;
     let mut p = at;
     let mut i: usize = 0;
     while i < 8 {
@@ -497,8 +497,8 @@ fn slack_at(s: &[u8], at: usize) -> PartItem
     let t = sizes_at(s, at, 4);
     let end = t.end;
     let v = t.values;
-    let filler = record::no_slot();
-    let cells = [filler; 8];
+    let filler = record::no_part();
+    let cells = filler.cells;
     let part = Part {
         length: v[0],
         breadth: v[1],

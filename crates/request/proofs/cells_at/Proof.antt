@@ -1,6 +1,4 @@
-use Rattle.request.proofs.Records.{slot-of}
-use Rattle.request.specs.Carried.{slotOf}
-use Prim.Native.Nat.{_<_, _≤_, _-_, _+_}
+use Prim.Native.Nat.{_≤_, _-_, _+_, _<_}
 use native.Mathlib.Omega.{arith}
 use mathlib.Core.Path.{_≡_, sym, _∙_}
 use lib.ListN.{length, take, drop}
@@ -9,6 +7,8 @@ use Rattle.request.proofs.Readings.{ahead, ahead-one, ahead-none, ahead
 use Rattle.record.specs.declared.Slot.{Slot}
 use Rattle.record.specs.Filler.{noSlot}
 use Rattle.request.specs.Shape.{cell?}
+use Rattle.request.specs.Carried.{slotOf}
+use Rattle.request.proofs.Records.{slot-of}
 use borrow.Author.Needs.{needs}
 use Rattle.request.proofs.cells_at.Statement.{statement}
 use Rattle.request.proofs.cells_at.Tie as tie
@@ -19,11 +19,11 @@ Inv-loop s at slots₀ p₀ i₀ slots p i = Filling 8 noSlot i slots × (p ≤ 
 abbrev μ-loop : tie.MeasureT-loop
 μ-loop s at slots₀ p₀ i₀ slots p i = 8 - i
 
-no-slot-requires : tie.Need-no-slot-requires Inv-loop μ-loop
-no-slot-requires c κs = search needs
+no-part-requires : tie.Need-no-part-requires Inv-loop μ-loop
+no-part-requires c κs = search needs
 
 loop-holds : tie.Need-loop-holds Inv-loop μ-loop
-loop-holds c = (rw (c .no-slot .ensures) (filling-none 8 noSlot), c .before .before .pre, sym (ahead-none (kept-items slotOf cell? 8 (tokens (drop (c .before .before .args .at) (c .before .before .args .s .now))))))
+loop-holds c = (rw (c .before .no-part .ensures) (filling-none 8 noSlot), c .before .before .before .pre, sym (ahead-none (kept-items slotOf cell? 8 (tokens (drop (c .before .before .before .args .at) (c .before .before .before .args .s .now))))))
 
 close-at-requires : tie.Need-close-at-requires Inv-loop μ-loop
 close-at-requires c κs = search needs
@@ -39,7 +39,7 @@ returns c =
     let n = rw (c .before .end .given .1) at (c .before .before .before .close-at .ensures) in
     let i = c .before .before .before .before .before .loop .i in
     let xs = c .before .before .before .before .before .loop .slots in
-    ((c .before .before .before .before .before .loop .inv .2 ∙ rw (items-closed slotOf cell? (8 - i) (tokens (drop (c .before .before .before .before .before .loop .p) (c .before .before .before .before .before .before .before .before .args .s .now))) _ (n .0)) (ahead-end (take i xs) _), n .1), filled 8 noSlot i xs (c .before .before .before .before .before .loop .inv .0) .0, filled 8 noSlot i xs (c .before .before .before .before .before .loop .inv .0) .1)
+    ((c .before .before .before .before .before .loop .inv .2 ∙ rw (items-closed slotOf cell? (8 - i) (tokens (drop (c .before .before .before .before .before .loop .p) (c .before .before .before .before .before .before .before .before .before .args .s .now))) _ (n .0)) (ahead-end (take i xs) _), n .1), filled 8 noSlot i xs (c .before .before .before .before .before .loop .inv .0) .0, filled 8 noSlot i xs (c .before .before .before .before .before .loop .inv .0) .1)
 
 enum-told : tie.Need-enum-told Inv-loop μ-loop
 enum-told c = search needs
@@ -56,7 +56,7 @@ enum-told-2 c = search needs
 returns-2 : tie.Need-returns-2 Inv-loop μ-loop
 returns-2 c =
     let i = c .before .before .before .before .before .before .before .loop .i in
-    let ts = tokens (drop (c .before .before .before .before .before .before .before .loop .p) (c .before .before .before .before .before .before .before .before .before .before .args .s .now)) in
+    let ts = tokens (drop (c .before .before .before .before .before .before .before .loop .p) (c .before .before .before .before .before .before .before .before .before .before .before .args .s .now)) in
     let n = rw (c .before .before .before .enum-told .given .1) at (c .before .before .before .before .before .close-at .ensures) in
     let m = rw (c .enum-told2 .given .1) at (c .before .before .cell-at .ensures) in
     c .before .before .before .before .before .before .before .loop .inv .2 ∙ rw (items-stop slotOf cell? (8 - i) ts n (omega arith) (slot-of (cell? ts) ∙ rw m))
@@ -77,9 +77,9 @@ loop-again : tie.Need-loop-again Inv-loop μ-loop
 loop-again c =
     let i = c .before .before .before .before .before .before .before .before .loop .i in
     let xs = c .before .before .before .before .before .before .before .before .loop .slots in
-    let ts = tokens (drop (c .before .before .before .before .before .before .before .before .loop .p) (c .before .before .before .before .before .before .before .before .before .before .before .args .s .now)) in
+    let ts = tokens (drop (c .before .before .before .before .before .before .before .before .loop .p) (c .before .before .before .before .before .before .before .before .before .before .before .before .args .s .now)) in
     let x : Slot = record { cell = c .before .cell .given .0 .0 } in
-    let us = tokens (drop (c .before .cell .given .0 .1 .0) (c .before .before .before .before .before .before .before .before .before .before .before .args .s .now)) in
+    let us = tokens (drop (c .before .cell .given .0 .1 .0) (c .before .before .before .before .before .before .before .before .before .before .before .before .args .s .now)) in
     let n = rw (c .before .before .before .before .enum-told .given .1) at (c .before .before .before .before .before .before .close-at .ensures) in
     let m = rw (c .before .cell .given .1) at (c .before .before .before .cell-at .ensures) in
     let k : 8 - i - 1 ≡ 8 - (i + 1) = omega arith in
@@ -94,7 +94,7 @@ returns-3 : tie.Need-returns-3 Inv-loop μ-loop
 returns-3 c =
     let i = c .before .before .loop .i in
     let e : 8 ≡ i = omega (arith, c .before .before .loop .inv .0 .upto) in
-    items-end slotOf cell? (c .before .before .before .before .before .args .s .now) (c .before .before .loop .p) 8 noSlot 8 i (c .before .before .loop .slots) _ (c .close-at2 .result) (c .before .before .loop .inv .0) e (omega arith) (c .before .before .loop .inv .2) (c .close-at2 .ensures)
+    items-end slotOf cell? (c .before .before .before .before .before .before .args .s .now) (c .before .before .loop .p) 8 noSlot 8 i (c .before .before .loop .slots) _ (c .close-at2 .result) (c .before .before .loop .inv .0) e (omega arith) (c .before .before .loop .inv .2) (c .close-at2 .ensures)
 
 pub cells-at-spec : {M : Type 1} → statement M
 cells-at-spec =
@@ -102,7 +102,7 @@ cells-at-spec =
     (tie.spec
     Inv-loop
     μ-loop
-    no-slot-requires
+    no-part-requires
     loop-holds
     close-at-requires
     enum-known-end

@@ -16,8 +16,8 @@ use Rattle.request.proofs.slack_at.Tie as tie
 sizes-at-requires : tie.Need-sizes-at-requires
 sizes-at-requires c κs = search needs
 
-no-slot-requires : tie.Need-no-slot-requires
-no-slot-requires c κs = search needs
+no-part-requires : tie.Need-no-part-requires
+no-part-requires c κs = search needs
 
 array-read-t11 : tie.Need-array-read-t11
 array-read-t11 c = search needs
@@ -34,16 +34,16 @@ array-read-t20 c = search needs
 returns : tie.Need-returns
 unfolding slack?
 returns c =
-    let v = c .before .before .sizes-at .result .values in
-    ends-built carriedPart slackRecord (lastNumbers? 4 (tokens (drop (c .before .before .before .before .args .at) (c .before .before .before .before .args .s .now)))) (c .before .before .before .before .args .s .now) _ (map carried) (take 4 v) (c .before .before .sizes-at .result .end) (c .before .before .sizes-at .ensures)
-    (λ x e. slack-kept x ∙ rw (c .no-slot .ensures, nth-kept 4 v x 0 e (omega arith), nth-kept 4 v x 1 e (omega arith), nth-kept 4 v x 2 e (omega arith), nth-kept 4 v x 3 e (omega arith)))
+    let v = c .before .before .before .sizes-at .result .values in
+    ends-built carriedPart slackRecord (lastNumbers? 4 (tokens (drop (c .before .before .before .before .before .args .at) (c .before .before .before .before .before .args .s .now)))) (c .before .before .before .before .before .args .s .now) _ (map carried) (take 4 v) (c .before .before .before .sizes-at .result .end) (c .before .before .before .sizes-at .ensures)
+    (λ x e. slack-kept x ∙ rw (c .before .no-part .ensures, nth-kept 4 v x 0 e (omega arith), nth-kept 4 v x 1 e (omega arith), nth-kept 4 v x 2 e (omega arith), nth-kept 4 v x 3 e (omega arith)))
 
 pub slack-at-spec : {M : Type 1} → statement M
 slack-at-spec =
     tie.close
     (tie.spec
     sizes-at-requires
-    no-slot-requires
+    no-part-requires
     array-read-t11
     array-read-t14
     array-read-t17
