@@ -1,7 +1,9 @@
 -- Document 01, Judge: codes 30 to 34, and the verdict. Where a stored record is outside its limits, which lines cannot bring
 -- about, the paper leaves the answer free: such a ship or load counts as none (30, 32), such columns as too few (31), and a
 -- hold that is outside its limits or does not fit as too much weight (34).
+use mathlib.Core.Path.{_≡_}
 use mathlib.Core.Bool.{Bool, true, false, cond, not, _&&_, _||_}
+use mathlib.Core.List.{List}
 use Prim.Native.Nat.{ℕ, suc}
 use lib.Dec.{leb}
 use lib.ListN.{length, getD}
@@ -9,7 +11,7 @@ use Rattle.whole.specs.Lists.{all}
 use Rattle.record.specs.declared.Hold.{Hold}
 use Rattle.record.specs.Limits.{shipLimits, loadLimits, holdLimits}
 use Rattle.record.specs.Columns.{held, noColumn, inOrder}
-use Rattle.grain.specs.Sum.{holdFits, totalWeight}
+use Rattle.grain.specs.Sum.{holdFits, weightMoment, totalWeight}
 use Rattle.stability.specs.declared.Basis.{Basis}
 use Rattle.stability.specs.declared.Around.{Around}
 use Rattle.stability.specs.declared.Around.the-variants.{At, Outside}
@@ -17,16 +19,23 @@ use Rattle.stability.specs.declared.Verdict.{Verdict}
 use Rattle.stability.specs.Arms.{columnsAround}
 use Rattle.stability.specs.Verdict.{verdictOf}
 use Rattle.panel.specs.declared.Condition.{Condition}
+use Rattle.panel.specs.declared.Weights.{Weights}
+use Rattle.panel.specs.declared.Weights.the-variants.{Together, TooMuch}
+use Rattle.panel.specs.declared.Judged.{Judged}
+use Rattle.panel.specs.declared.Judged.the-variants.{Refused, Given}
 use Rattle.panel.specs.Condition.{isHeld}
 
 -- a place is empty, or its hold is within its limits and fits
 abbrev pub soundPlace : Hold → Bool
 soundPlace h = not (isHeld h) || holdLimits h && holdFits h
 
--- what judge answers: a refusal with its code, or a verdict
-pub data Judged : Type 0 where
-  refused : ℕ → Judged
-  judged : Verdict → Judged
+-- the weight moment of one place, 0 where it holds no hold
+unfoldable pub placeWeight : Hold → Weights
+placeWeight h = cond (soundPlace h) (Together (weightMoment h)) TooMuch
+
+-- the weight moments together, or that they are refused (34)
+unfoldable pub weightsOf : List Hold → Weights
+weightsOf hs = cond (all soundPlace hs && leb (totalWeight hs) 1000000000) (Together (totalWeight hs)) TooMuch
 
 -- W, the total weight moment
 abbrev pub weight : Condition → ℕ
@@ -44,13 +53,20 @@ basisAt c i =
 
 -- with the columns around D found: 34, or the verdict
 abbrev pub judgedAt : Condition → Around → Judged
-judgedAt c Outside = refused 33
+judgedAt c Outside = Refused 33
 judgedAt c (At i) =
-    cond (all soundPlace (c .holds) && leb (weight c) 1000000000) (judged (verdictOf (c .ship) (basisAt c i))) (refused 34)
+    cond (all soundPlace (c .holds) && leb (weight c) 1000000000) (Given (verdictOf (c .ship) (basisAt c i))) (Refused 34)
 
 unfoldable pub judgedOf : Condition → Judged
 judgedOf c =
-    cond (not (c .shipped && shipLimits (c .ship))) (refused 30)
-    (cond (not (leb 2 (length (held (c .columns))) && inOrder (held (c .columns)))) (refused 31)
-    (cond (not (c .loaded && loadLimits (c .load))) (refused 32)
+    cond (not (c .shipped && shipLimits (c .ship))) (Refused 30)
+    (cond (not (leb 2 (length (held (c .columns))) && inOrder (held (c .columns)))) (Refused 31)
+    (cond (not (c .loaded && loadLimits (c .load))) (Refused 32)
     (judgedAt c (columnsAround (c .load .d) (held (c .columns))))))
+
+-- what judge knows before it weighs: the columns i and i + 1 around D, all columns in order, a load within its limits
+pub record Between (c : Condition) (i : ℕ) : Type 0 where
+  pub places : length (c .columns .places) ≡ 20
+  pub ordered : inOrder (held (c .columns)) ≡ true
+  pub around : columnsAround (c .load .d) (held (c .columns)) ≡ At i
+  pub load : loadLimits (c .load) ≡ true

@@ -1,4 +1,5 @@
 -- Document 01, Every line: what a line and a lent buffer's length give: code, reply and the condition after.
+use mathlib.Core.Path.{_≡_}
 use mathlib.Core.Bool.{Bool, cond}
 use mathlib.Core.List.{List, [], _∷_}
 use Prim.Native.Nat.{ℕ}
@@ -20,8 +21,12 @@ use Rattle.reply.specs.Written.{over}
 use Rattle.reply.specs.Replies.{answerReply, refusalReply, verdictReply}
 use Rattle.panel.specs.declared.Condition.{Condition}
 use Rattle.panel.specs.Condition.{empty}
-use Rattle.panel.specs.Judge.{Judged, refused, judged, judgedOf}
-use Rattle.panel.specs.Operations.{Change, taken, refusedWith, shipOperation, loadOperation, columnOperation, holdOperation, dropOperation}
+use Rattle.panel.specs.declared.Change.{Change}
+use Rattle.panel.specs.declared.Stepped.{Stepped}
+use Rattle.panel.specs.declared.Judged.{Judged}
+use Rattle.panel.specs.declared.Judged.the-variants.{Refused, Given}
+use Rattle.panel.specs.Judge.{judgedOf}
+use Rattle.panel.specs.Operations.{taken, refusedWith, shipOperation, loadOperation, columnOperation, holdOperation, dropOperation}
 
 pub record Outcome : Type 0 where
   pub code : ℕ
@@ -34,8 +39,8 @@ answered ch = record { code = ch .code; reply = answerReply (ch .code); after = 
 
 -- judge changes nothing
 abbrev pub verdictGiven : Condition → Judged → Outcome
-verdictGiven c (refused code) = record { code = code; reply = refusalReply code; after = c }
-verdictGiven c (judged v) =
+verdictGiven c (Refused code) = record { code = code; reply = refusalReply code; after = c }
+verdictGiven c (Given v) =
     record {
       code = judgementCode (v .judgement);
       reply = verdictReply (judgementCode (v .judgement)) (v .gm) (v .diff) (v .upper) (v .area);
@@ -69,9 +74,13 @@ unfoldable pub stepOf : Condition → List ℕ → (n : ℕ) → Outcome
 stepOf c line n =
     cond (ltb n 96) (record { code = 15; reply = []; after = c }) (outcomeAfter c line (readingOf line))
 
--- the lent buffer after a line: the reply over its front, the bytes behind it as they were
-abbrev pub bufferAfter : Condition → (line lent : List ℕ) → List ℕ
-bufferAfter c line lent = over (stepOf c line (length lent) .reply) lent
+-- what the program hands back is this outcome: condition, code and length, and in the lent buffer the reply over its front, the
+-- bytes behind it as they were
+pub record Steps (o : Outcome) (r : Stepped) (before after : List ℕ) : Type 0 where
+  pub condition : r .after ≡ o .after
+  pub coded : r .code ≡ o .code
+  pub long : r .len ≡ length (o .reply)
+  pub written : after ≡ over (o .reply) before
 
 -- the condition after a list of lines, each with its buffer's length, and the replies to them
 pub record Sent : Type 0 where

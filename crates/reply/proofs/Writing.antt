@@ -1,4 +1,4 @@
--- Laws of `over` and `digits`.
+-- Laws of texts written into a buffer, of digits, and of the lengths of replies.
 use mathlib.Core.Path.{_≡_, refl, sym, _∙_, ap, subst}
 use mathlib.Core.Bool.{Bool, true, false, cond}
 use mathlib.Core.List.{List, [], _∷_, _++_, append-assoc, append-nil}
@@ -13,10 +13,13 @@ use native.Mathlib.Nat.{pow-suc}
 use lib.Dec.{T}
 use lib.Signed.{ltZ}
 use lib.IntN.{ℤ, pos, negsuc}
+use mir.Syntax.{w64}
+use mir.Val.{SFits, toZ, ofZ}
+use mir.Facts.{toZ-ofZ}
 use Rattle.whole.specs.Sign.{plus, minus}
 use Rattle.reply.specs.Written.{over, into, digits, decimal, figure, twoDigits}
 use Rattle.whole.specs.Bytes.{bytes}
-use Rattle.reply.specs.Replies.{Short, tail, codedReply, field, count, verdictReply}
+use Rattle.reply.specs.Replies.{tail, codedReply, answerReply, refusalReply, field, count, verdictReply}
 
 pub over-none : (l : List ℕ) → over [] l ≡ l
 unfolding over
@@ -144,27 +147,64 @@ short-digits (suc k) n (suc j) h =
     by true p = omega arith
     by false p = simp length-append (omega arith)
 
-pub short-figure : (z : ℤ) → Short z → length (figure z) ≤ 13
+-- what an i64 holds: at most nineteen digits and a sign
+pub record Short (z : ℤ) : Type 0 where
+  pub above : plus z < 2 ^ 63
+  pub below : minus z ≤ 2 ^ 63
+
+pub short : (z : ℤ) → SFits w64 z → Short z
+short (pos n) f = record { above = f .sfits; below = omega arith }
+short (negsuc n) f = record { above = omega arith; below = omega (arith, f .sfits) }
+
+pub short-figure : (z : ℤ) → Short z → length (figure z) ≤ 20
 unfolding figure
-short-figure (pos n) s = omega (arith, short-digits 20 n 11 (s .above))
-short-figure (negsuc n) s = omega (arith, short-digits 20 (suc n) 11 (s .below))
+short-figure (pos n) s = omega (arith, short-digits 20 n 18 (omega (arith, s .above)))
+short-figure (negsuc n) s = omega (arith, short-digits 20 (suc n) 18 (omega (arith, s .below)))
+
+-- how long a verdict's figures are; the machine reads GM and DIFF back from their bits
+pub record Lengths (gm diff : ℤ) (upper area : ℕ) : Type 0 where
+  pub gm-read : length (figure (toZ w64 (ofZ w64 gm))) ≡ length (figure gm)
+  pub diff-read : length (figure (toZ w64 (ofZ w64 diff))) ≡ length (figure diff)
+  pub gm-long : length (figure gm) ≤ 20
+  pub diff-long : length (figure diff) ≤ 20
+  pub upper-long : length (decimal upper) ≤ 4
+  pub area-long : length (decimal area) ≤ 20
+
+pub lengths : (gm diff : ℤ) (upper area : ℕ) → SFits w64 gm → SFits w64 diff → upper ≤ 4000 → Lengths gm diff upper area
+lengths gm diff upper area g d u =
+    record {
+      gm-read = rw (toZ-ofZ {z = gm} g);
+      diff-read = rw (toZ-ofZ {z = diff} d);
+      gm-long = short-figure gm (short gm g);
+      diff-long = short-figure diff (short diff d);
+      upper-long = short-digits 20 upper 3 (omega arith);
+      area-long = length-digits 20 area;
+    }
 
 -- a piece behind a space
 pub more-field : (v w l out out′ : List ℕ) (at at′ : ℕ) → Sofar v l out at → (at′ ≡ at + 1 + length w) × (out′ ≡ into at (32 ∷ w) out) → length v + suc (length w) ≤ length l → Sofar (v ++ 32 ∷ w) l out′ at′
 more-field v w l out out′ at at′ s e p = more v (32 ∷ w) l out out′ at at′ s (omega (arith, e .0), e .1) p
 
--- ---- every reply fits 96 bytes
-pub coded-fits : (head : List ℕ) (code : ℕ) → length head ≤ 92 → length (codedReply head code) ≤ 96
+-- ---- every reply of document 01 fits 96 bytes
+coded-fits : (head : List ℕ) (code : ℕ) → length head ≤ 92 → length (codedReply head code) ≤ 96
 coded-fits head code h =
     omega (arith, length-append (head ++ twoDigits code) tail, length-append head (twoDigits code))
 
-pub verdict-fits : (code : ℕ) (gm diff : ℤ) (upper area : ℕ) → Short gm → Short diff → length (verdictReply code gm diff upper area) ≤ 96
+pub answer-fits : (code : ℕ) → length (answerReply code) ≤ 96
+answer-fits code = coded-fits (bytes "(answer ") code (omega arith)
+
+pub refusal-fits : (code : ℕ) → length (refusalReply code) ≤ 96
+refusal-fits code = coded-fits (bytes "(verdict ") code (omega arith)
+
+pub verdict-fits :
+    (code : ℕ) (gm diff : ℤ) (upper area : ℕ) → Short gm → Short diff → upper ≤ 4000 →
+    length (verdictReply code gm diff upper area) ≤ 96
 unfolding verdictReply
-verdict-fits code gm diff upper area g d =
+verdict-fits code gm diff upper area g d u =
     let v1 : List ℕ = bytes "(verdict " in
     let v2 = v1 ++ twoDigits code in
     let v3 = v2 ++ field gm in
     let v4 = v3 ++ field diff in
     let v5 = v4 ++ count upper in
     let v6 = v5 ++ count area in
-    omega (arith, length-append v1 (twoDigits code), length-append v2 (field gm), length-append v3 (field diff), length-append v4 (count upper), length-append v5 (count area), length-append v6 tail, short-figure gm g, short-figure diff d, length-digits 20 upper, length-digits 20 area)
+    omega (arith, length-append v1 (twoDigits code), length-append v2 (field gm), length-append v3 (field diff), length-append v4 (count upper), length-append v5 (count area), length-append v6 tail, short-figure gm g, short-figure diff d, short-digits 20 upper 3 (omega arith), length-digits 20 area)

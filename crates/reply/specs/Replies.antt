@@ -1,9 +1,8 @@
 -- Document 01, Codes: the replies. One newline, byte 10, follows each.
-use mathlib.Core.List.{List, [], _∷_, _++_}
-use Prim.Native.Nat.{ℕ, _<_, _^_}
+use mathlib.Core.List.{List, _∷_, _++_}
+use Prim.Native.Nat.{ℕ}
 use lib.IntN.{ℤ}
 use Rattle.whole.specs.Bytes.{bytes}
-use Rattle.whole.specs.Sign.{plus, minus}
 use Rattle.reply.specs.Written.{decimal, figure, twoDigits}
 
 -- the closing bracket and the newline
@@ -33,8 +32,3 @@ count n = 32 ∷ decimal n
 unfoldable pub verdictReply : (code : ℕ) (gm diff : ℤ) (upper area : ℕ) → List ℕ
 verdictReply code gm diff upper area =
     (((((bytes "(verdict " ++ twoDigits code) ++ field gm) ++ field diff) ++ count upper) ++ count area) ++ tail
-
--- a figure of at most twelve digits: then every reply fits 96 bytes
-pub record Short (z : ℤ) : Type 0 where
-  pub above : plus z < 10 ^ 12
-  pub below : minus z < 10 ^ 12

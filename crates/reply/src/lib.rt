@@ -1,10 +1,10 @@
 // Replies, written into what is left of a lent buffer.
 ghost use mathlib.Core.Path.{_≡_};
-ghost use mathlib.Core.List.{_∷_, _++_};
-ghost use Prim.Native.Nat.{ℕ, _+_, _-_, _≤_, _<_};
+ghost use mathlib.Core.List.{_∷_};
+ghost use Prim.Native.Nat.{_+_, _≤_};
 ghost use lib.ListN.{length};
 ghost use Rattle.reply.specs.Written.{over, into, digits, decimal, figure, twoDigits};
-ghost use Rattle.reply.specs.Replies.{codedReply, answerReply, refusalReply, verdictReply, Short};
+ghost use Rattle.reply.specs.Replies.{codedReply, answerReply, refusalReply, verdictReply};
 
 // A text over the front of a buffer.
 fn put(out: &mut [u8], w: &[u8]) -> usize
@@ -127,7 +127,7 @@ fn append_count(out: &mut [u8], at: usize, n: u64) -> usize
 
 // `(verdict CC GM DIFF UPPER AREA)`.
 pub fn verdict(out: &mut [u8], code: u8, gm: i64, diff: i64, upper: u64, area: u64) -> usize
-    requires { ⌜ (96 ≤ length (now out)) × Short gm × Short diff ⌝ }
+    requires { ⌜ (96 ≤ length (now out)) × (upper ≤ 4000) ⌝ }
     ensures { λ r. ⌜ (r ≡ length (verdictReply code gm diff upper area)) × (now (out .exit) ≡ over (verdictReply code gm diff upper area) (now (out .entry))) ⌝ }
 {
     let a = put(out, b"(verdict ");

@@ -2,4 +2,6 @@ pub mod Readings
 pub mod Records
 pub mod Kept
 pub mod Yields
+pub mod Forms
 pub mod Tidy
+pub mod Lengths

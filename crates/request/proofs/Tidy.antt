@@ -9,24 +9,21 @@ use lib.ListN.{length, take, replicate, length-map}
 use lib.Seq.{take-at}
 use Rattle.whole.specs.Lists.{within, all}
 use Rattle.whole.proofs.Lists.{and-true}
-use Rattle.record.specs.declared.Ship.{Ship}
 use Rattle.record.specs.declared.Column.{Column}
 use Rattle.record.specs.declared.Cell.{Cell}
 use Rattle.record.specs.declared.Slot.{Slot}
 use Rattle.record.specs.declared.Mode.{Mode}
-use Rattle.record.specs.declared.Mode.the-variants.{Trimmed, Voided, Partial}
 use Rattle.record.specs.declared.Part.{Part}
-use Rattle.record.specs.Columns.{noColumn}
 use Rattle.record.specs.Limits.{cellsOf, sectionLimits, slackLimits, partLimits, holdLimits}
 use Rattle.record.specs.Filler.{noSlot, noPart, noHold, padded}
 use Rattle.text.specs.Token.{Token}
 use Rattle.request.specs.declared.Kind.{Kind}
-use Rattle.request.specs.declared.Kind.the-variants.{ShipLine, HoldLine, JudgeLine, ClearLine, NoShape}
+use Rattle.request.specs.declared.Kind.the-variants.{HoldLine}
 use Rattle.request.specs.declared.Request.{Request}
-use Rattle.request.specs.Grammar.{open?, close?, run?, head?, is, number?, lastNumbers?, several?}
-use Rattle.request.specs.Shape.{plain, sectionRecord, slackRecord, holdRecord, cell?, section?, slack?, body?, part?, parts?, hold?, ship?, column?, load?, drop?, bare?, form?, requestOf}
+use Rattle.request.specs.Shape.{sectionRecord, slackRecord, holdRecord, holdRequest, part?, requestOf}
 use Rattle.request.specs.Carried.{carriedCell, carriedSlot, carriedPart, carriedHold}
-use Rattle.request.proofs.Yields.{Yields, yields, nothing, yields-with, yields-then, yields-if, yields-whole, Each, several-yield}
+use Rattle.request.proofs.Yields.{Yields, Each, Several}
+use Rattle.request.proofs.Forms.{part-yields, request-has}
 use Rattle.request.proofs.Kept.{kept-within, kept-more, kept-section, kept-slack}
 
 -- ---- an array keeps its fillers if the filler is kept
@@ -53,7 +50,7 @@ kept-each f g [] p e = refl
 kept-each f g (x ∷ l) p e = kept-more f g x l (p .0) (kept-each f g l (p .1)) e
 
 -- ---- a part of cells: the cells that its limits test are those that were read
-abbrev inSlot : Cell → Slot
+abbrev pub inSlot : Cell → Slot
 inSlot c = record { cell = c }
 
 section-cells : (v : ℕ) (cs : List Cell) → cellsOf (sectionRecord v cs) ≡ cs
@@ -75,19 +72,8 @@ slack-kept v e = kept-slack (slackRecord v) e (kept-padded carriedSlot noSlot re
 abbrev KeptPart : Mode → Part → Type 0
 KeptPart m p = partLimits m p ≡ true → carriedPart p ≡ p
 
-section-tidy : (ts : List Token) → Yields (λ p. sectionLimits p ≡ true → carriedPart p ≡ p) (section? ts)
-unfolding section?
-section-tidy ts = yields-then (number? ts) (λ v us. yields-then (several? 8 cell? us) (λ cs ws. yields (section-kept v cs)))
-
-body-tidy : (m : Mode) (ts : List Token) → Yields (KeptPart m) (body? m ts)
-unfolding body? slack?
-body-tidy Trimmed ts = section-tidy ts
-body-tidy Voided ts = section-tidy ts
-body-tidy Partial ts = yields-then (lastNumbers? 4 ts) (λ v us. yields (slack-kept v))
-
 part-tidy : (m : Mode) (ts : List Token) → Yields (KeptPart m) (part? m ts)
-unfolding part?
-part-tidy m ts = yields-then (head? ts) (λ r us. yields-if (is r "part") (body-tidy m us) nothing)
+part-tidy = part-yields KeptPart (λ v cs n. section-kept v cs) (λ v cs n. section-kept v cs) slack-kept
 
 -- ---- a hold of such parts
 hold-kept : (m : Mode) (factor : ℕ) (ps : List Part) → Each (KeptPart m) ps → holdLimits (holdRecord m factor ps) ≡ true → carriedHold (holdRecord m factor ps) ≡ holdRecord m factor ps
@@ -104,67 +90,15 @@ record Tidy (r : Request) : Type 0 where
   kept : holdLimits (r .hold) ≡ true → carriedHold (r .hold) ≡ r .hold
   counted : (n : ℕ) → r .kind ≡ HoldLine n → (1 ≤ r .hold .head .count) × (r .hold .head .count ≤ 6)
 
-parts-tidy : (n : ℕ) (m : Mode) (ts : List Token) → Yields Tidy (parts? n m ts)
-unfolding parts?
-parts-tidy n m ts =
-    yields-then (number? ts)
-    (λ factor us. yields-with (several-yield (KeptPart m) (part? m) (part-tidy m) 6 us)
-    (λ ps ws s. yields (record { kept = hold-kept m factor ps (s .every); counted = λ k e. (s .some, s .most) })))
+hold-tidy : (n : ℕ) (m : Mode) (factor : ℕ) (ps : List Part) → Several (KeptPart m) 6 ps → Tidy (holdRequest n (holdRecord m factor ps))
+hold-tidy n m factor ps s = record { kept = hold-kept m factor ps (s .every); counted = λ k e. (s .some, s .most) }
 
-hold-tidy : (ts : List Token) → Yields Tidy (hold? ts)
-unfolding hold?
-hold-tidy ts =
-    yields-then (number? ts) (λ n us. yields-then (run? us) (λ r ws.
-    yields-if (is r "trimmed") (parts-tidy n Trimmed ws)
-    (yields-if (is r "voided") (parts-tidy n Voided ws)
-    (yields-if (is r "partial") (parts-tidy n Partial ws) nothing))))
-
--- ---- any other line has no hold
-unheld : (k : Kind) (c : Column) → ((n : ℕ) → k ≡ HoldLine n → _≡_ {A = ℕ} 0 1) → Tidy (record { kind = k; hold = noHold; column = c })
-unheld k c other = record { kept = λ e. refl; counted = λ n e. let z = other n e in absurd (omega arith) }
-
-ship-unheld : (s : Ship) → Tidy (plain (ShipLine s))
-ship-unheld s = unheld (ShipLine s) noColumn (λ n e. cc)
-
-ship-tidy : (ts : List Token) → Yields Tidy (ship? ts)
-unfolding ship?
-ship-tidy ts =
-    yields-then (run? ts) (λ r us. yields-then (lastNumbers? 2 us) (λ v ws.
-    yields-if (is r "new") (yields (ship-unheld _)) (yields-if (is r "old") (yields (ship-unheld _)) nothing)))
-
-column-tidy : (ts : List Token) → Yields Tidy (column? ts)
-unfolding column?
-column-tidy ts =
-    yields-then (number? ts) (λ d t1. yields-then (number? t1) (λ km t2. yields-then (open? t2) (λ u t3.
-    yields-then (lastNumbers? 10 t3) (λ kn t4. yields-then (close? t4) (λ u t5. yields (unheld _ _ (λ n e. cc)))))))
-
-load-tidy : (ts : List Token) → Yields Tidy (load? ts)
-unfolding load?
-load-tidy ts = yields-then (number? ts) (λ d us. yields-then (lastNumbers? 2 us) (λ v ws. yields (unheld _ _ (λ n e. cc))))
-
-drop-tidy : (ts : List Token) → Yields Tidy (drop? ts)
-unfolding drop?
-drop-tidy ts = yields-then (number? ts) (λ d us. yields-then (close? us) (λ u ws. yields (unheld _ _ (λ n e. cc))))
-
-bare-tidy : (k : Kind) → ((n : ℕ) → k ≡ HoldLine n → _≡_ {A = ℕ} 0 1) → (ts : List Token) → Yields Tidy (bare? k ts)
-unfolding bare?
-bare-tidy k other ts = yields-then (close? ts) (λ u us. yields (unheld k noColumn other))
-
-form-tidy : (ts : List Token) → Yields Tidy (form? ts)
-unfolding form?
-form-tidy ts =
-    yields-then (head? ts) (λ r us.
-    yields-if (is r "ship") (ship-tidy us)
-    (yields-if (is r "column") (column-tidy us)
-    (yields-if (is r "load") (load-tidy us)
-    (yields-if (is r "hold") (hold-tidy us)
-    (yields-if (is r "drop") (drop-tidy us)
-    (yields-if (is r "judge") (bare-tidy JudgeLine (λ n e. cc) us)
-    (yields-if (is r "clear") (bare-tidy ClearLine (λ n e. cc) us) nothing)))))))
+-- any other line has no hold
+unheld : (k : Kind) (c : Column) → ((n : ℕ) → k ≡ HoldLine n → _≡_ {A = ℕ} 0 1) → length (c .kn) ≡ 10 → Tidy (record { kind = k; hold = noHold; column = c })
+unheld k c other ten = record { kept = λ e. refl; counted = λ n e. let z = other n e in absurd (omega arith) }
 
 request-tidy : (ts : List Token) → Tidy (requestOf ts)
-unfolding requestOf
-request-tidy ts = yields-whole Tidy (plain NoShape) (form-tidy ts) (unheld NoShape noColumn (λ n e. cc))
+request-tidy = request-has Tidy KeptPart part-tidy hold-tidy unheld
 
 -- a hold that is read is carried as it is within its limits; a hold line has one to six parts
 pub kept-hold : (ts : List Token) → holdLimits (requestOf ts .hold) ≡ true → carriedHold (requestOf ts .hold) ≡ requestOf ts .hold

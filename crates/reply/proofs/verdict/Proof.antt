@@ -1,15 +1,14 @@
-use mathlib.Core.Path.{_≡_, ap}
+use mathlib.Core.Path.{_≡_}
 use mathlib.Core.List.{List, _++_}
 use Prim.Native.Nat.{ℕ, suc, _+_}
 use native.Mathlib.Omega.{arith}
 use mir.Facts.{toZ-ofZ}
 use mir.Syntax.{w64}
 use lib.ListN.{length, length-append}
-use lib.IntN.{ℤ}
 use Rattle.whole.specs.Bytes.{bytes}
 use Rattle.reply.specs.Written.{decimal, figure, twoDigits}
 use Rattle.reply.specs.Replies.{tail, field, count, verdictReply}
-use Rattle.reply.proofs.Writing.{first, more, more-field, length-digits, short-figure}
+use Rattle.reply.proofs.Writing.{first, more, more-field, lengths}
 use borrow.Author.Needs.{needs}
 use Rattle.reply.proofs.verdict.Statement.{statement}
 use Rattle.reply.proofs.verdict.Tie as tie
@@ -27,48 +26,28 @@ append-field-requires : tie.Need-append-field-requires
 append-field-requires c κs =
     let s = c .before .before .before .before .before .before .before .before .before .before .before in
     let a = s .args in
-    let g = ap (λ (y : ℤ). length (figure y)) (toZ-ofZ {w = w64} {z = a .gm} (s .fits .gm)) in
-    let d = ap (λ (y : ℤ). length (figure y)) (toZ-ofZ {w = w64} {z = a .diff} (s .fits .diff)) in
-    let g′ = short-figure (a .gm) (s .pre .1) in
-    let d′ = short-figure (a .diff) (s .pre .2) in
-    let u = length-digits 20 (a .upper) in
-    let r = length-digits 20 (a .area) in
+    let n = lengths (a .gm) (a .diff) (a .upper) (a .area) (s .fits .gm) (s .fits .diff) (s .pre .1) in
     omega (arith, s .pre .0)
 
 append-field-requires-2 : tie.Need-append-field-requires-2
 append-field-requires-2 c κs =
     let s = c .before .before .before .before .before .before .before .before .before .before .before .before .before .before .before in
     let a = s .args in
-    let g = ap (λ (y : ℤ). length (figure y)) (toZ-ofZ {w = w64} {z = a .gm} (s .fits .gm)) in
-    let d = ap (λ (y : ℤ). length (figure y)) (toZ-ofZ {w = w64} {z = a .diff} (s .fits .diff)) in
-    let g′ = short-figure (a .gm) (s .pre .1) in
-    let d′ = short-figure (a .diff) (s .pre .2) in
-    let u = length-digits 20 (a .upper) in
-    let r = length-digits 20 (a .area) in
+    let n = lengths (a .gm) (a .diff) (a .upper) (a .area) (s .fits .gm) (s .fits .diff) (s .pre .1) in
     omega (arith, s .pre .0)
 
 append-count-requires : tie.Need-append-count-requires
 append-count-requires c κs =
     let s = c .before .before .before .before .before .before .before .before .before .before .before .before .before .before .before .before .before .before .before in
     let a = s .args in
-    let g = ap (λ (y : ℤ). length (figure y)) (toZ-ofZ {w = w64} {z = a .gm} (s .fits .gm)) in
-    let d = ap (λ (y : ℤ). length (figure y)) (toZ-ofZ {w = w64} {z = a .diff} (s .fits .diff)) in
-    let g′ = short-figure (a .gm) (s .pre .1) in
-    let d′ = short-figure (a .diff) (s .pre .2) in
-    let u = length-digits 20 (a .upper) in
-    let r = length-digits 20 (a .area) in
+    let n = lengths (a .gm) (a .diff) (a .upper) (a .area) (s .fits .gm) (s .fits .diff) (s .pre .1) in
     omega (arith, s .pre .0)
 
 append-count-requires-2 : tie.Need-append-count-requires-2
 append-count-requires-2 c κs =
     let s = c .before .before .before .before .before .before .before .before .before .before .before .before .before .before .before .before .before .before .before .before .before .before .before in
     let a = s .args in
-    let g = ap (λ (y : ℤ). length (figure y)) (toZ-ofZ {w = w64} {z = a .gm} (s .fits .gm)) in
-    let d = ap (λ (y : ℤ). length (figure y)) (toZ-ofZ {w = w64} {z = a .diff} (s .fits .diff)) in
-    let g′ = short-figure (a .gm) (s .pre .1) in
-    let d′ = short-figure (a .diff) (s .pre .2) in
-    let u = length-digits 20 (a .upper) in
-    let r = length-digits 20 (a .area) in
+    let n = lengths (a .gm) (a .diff) (a .upper) (a .area) (s .fits .gm) (s .fits .diff) (s .pre .1) in
     omega (arith, s .pre .0)
 
 slice-aggregate-append : tie.Need-slice-aggregate-append
@@ -78,12 +57,7 @@ append-requires : tie.Need-append-requires
 append-requires c κs =
     let s = c .before .before .before .before .before .before .before .before .before .before .before .before .before .before .before .before .before .before .before .before .before .before .before .before .before .before .before .before in
     let a = s .args in
-    let g = ap (λ (y : ℤ). length (figure y)) (toZ-ofZ {w = w64} {z = a .gm} (s .fits .gm)) in
-    let d = ap (λ (y : ℤ). length (figure y)) (toZ-ofZ {w = w64} {z = a .diff} (s .fits .diff)) in
-    let g′ = short-figure (a .gm) (s .pre .1) in
-    let d′ = short-figure (a .diff) (s .pre .2) in
-    let u = length-digits 20 (a .upper) in
-    let r = length-digits 20 (a .area) in
+    let n = lengths (a .gm) (a .diff) (a .upper) (a .area) (s .fits .gm) (s .fits .diff) (s .pre .1) in
     omega (arith, s .pre .0)
 
 same-length : tie.Need-same-length
@@ -94,12 +68,7 @@ unfolding verdictReply
 returns c =
     let s = c .before .before .before .before .before .before .before .before .before .before .before .before .before .before .before .before .before .before .before .before .before .before .before .before .before .before .before .before .before .before .before in
     let a = s .args in
-    let g = ap (λ (y : ℤ). length (figure y)) (toZ-ofZ {w = w64} {z = a .gm} (s .fits .gm)) in
-    let d = ap (λ (y : ℤ). length (figure y)) (toZ-ofZ {w = w64} {z = a .diff} (s .fits .diff)) in
-    let g′ = short-figure (a .gm) (s .pre .1) in
-    let d′ = short-figure (a .diff) (s .pre .2) in
-    let u = length-digits 20 (a .upper) in
-    let r = length-digits 20 (a .area) in
+    let n = lengths (a .gm) (a .diff) (a .upper) (a .area) (s .fits .gm) (s .fits .diff) (s .pre .1) in
     let l = a .out .now in
     let v1 : List ℕ = bytes "(verdict " in
     let v2 = v1 ++ twoDigits (a .code) in

@@ -1,0 +1,76 @@
+-- A line that passes the tests of the whole line has the outcome of its request, and every other one has a code of its own.
+use mathlib.Core.Path.{_≡_, refl, sym, ap, _∙_}
+use mathlib.Core.Bool.{Bool, true, false}
+use mathlib.Core.List.{List, [], _∷_}
+use Prim.Native.Nat.{ℕ, _≤_}
+use native.Mathlib.Omega.{arith}
+use lib.Dec.{ltb}
+use borrow.Author.Tests.{ltb-false, le-ltb}
+use Rattle.text.specs.declared.Reading.{Reading}
+use Rattle.text.specs.declared.Reading.the-variants.{Sound, TooLong, BadByte, NotOneForm, BadNumber}
+use Rattle.text.specs.Line.{readingOf}
+use Rattle.request.specs.declared.Kind.{Kind}
+use Rattle.panel.specs.declared.Condition.{Condition}
+use Rattle.panel.specs.Step.{Outcome, outcomeBy, outcomeOf, outcomeAfter, stepOf}
+use Rattle.panel.specs.Demands.{request, Asks, isOneOf}
+
+-- the codes that are given before the request is looked at
+abbrev pub early : List ℕ
+early = 10 ∷ 11 ∷ 12 ∷ 13 ∷ 15 ∷ []
+
+-- what the request asks for
+abbrev pub requested : Condition → List ℕ → Outcome
+requested c line = outcomeBy c (request line .kind) (request line .hold) (request line .column)
+
+pub record Heard (c : Condition) (line : List ℕ) (lent : ℕ) : Type 0 where
+  pub room : 96 ≤ lent
+  pub sound : readingOf line ≡ Sound
+  pub outcome : stepOf c line lent ≡ requested c line
+
+module _ (c : Condition) (line : List ℕ) (lent : ℕ) where
+  module _ (room : 96 ≤ lent) where
+    at-reading : (r : Reading) → readingOf line ≡ r → stepOf c line lent ≡ outcomeAfter c line r
+    unfolding stepOf
+    at-reading r e = rw (le-ltb lent 96 room, e)
+
+    pub hears : readingOf line ≡ Sound → Heard c line lent
+    unfolding outcomeOf
+    hears e = record { room = room; sound = e; outcome = at-reading Sound e }
+
+  -- a line with any other code was heard
+  module _ (n : ℕ) (coded : stepOf c line lent .code ≡ n) (late : isOneOf early n ≡ false) where
+    clash : (o : Outcome) → stepOf c line lent ≡ o → isOneOf early (o .code) ≡ true → Heard c line lent
+    clash o e t =
+        let z : true ≡ false = sym t ∙ ap (λ (o : Outcome). isOneOf early (o .code)) (sym e) ∙ ap (isOneOf early) coded ∙ late in
+        let y : _≡_ {A = ℕ} 0 1 = cc in
+        absurd (omega arith)
+
+    by-reading : 96 ≤ lent → (r : Reading) → readingOf line ≡ r → Heard c line lent
+    unfolding isOneOf
+    by-reading p Sound e = hears p e
+    by-reading p TooLong e = clash _ (at-reading p TooLong e) refl
+    by-reading p BadByte e = clash _ (at-reading p BadByte e) refl
+    by-reading p NotOneForm e = clash _ (at-reading p NotOneForm e) refl
+    by-reading p BadNumber e = clash _ (at-reading p BadNumber e) refl
+
+    by-room : (x : Bool) → ltb lent 96 ≡ x → Heard c line lent
+    unfolding stepOf isOneOf
+    by-room true e = clash (record { code = 15; reply = []; after = c }) (rw e) refl
+    by-room false e = by-reading (ltb-false lent 96 e) (readingOf line) refl
+
+    pub heard : Heard c line lent
+    heard = by-room (ltb lent 96) refl
+
+  -- a line that was heard asks for what its request is, and has that outcome
+  pub asks : (k : Kind) → Heard c line lent → request line .kind ≡ k → Asks line lent k
+  asks k h e = record { room = h .room; sound = h .sound; asked = e }
+
+  pub asked : (k : Kind) → Asks line lent k → stepOf c line lent ≡ outcomeBy c k (request line .hold) (request line .column)
+  asked k a =
+      hears (a .room) (a .sound) .outcome
+      ∙ ap (λ (k : Kind). outcomeBy c k (request line .hold) (request line .column)) (a .asked)
+
+  -- a line that is taken has the outcome that it asks for
+  pub taken-as : (k : Kind) → request line .kind ≡ k → stepOf c line lent .code ≡ 0 → stepOf c line lent ≡ outcomeBy c k (request line .hold) (request line .column)
+  unfolding isOneOf
+  taken-as k e z = asked k (asks k (heard 0 z refl) e)

@@ -1,0 +1,60 @@
+-- A request as it is carried has the outcome of the request as it was read.
+use mathlib.Core.Path.{_≡_, refl, sym, _∙_}
+use mathlib.Core.Bool.{Bool, true, false, cond, _&&_}
+use mathlib.Core.List.{List}
+use Prim.Native.Nat.{ℕ}
+use Rattle.text.specs.Token.{Token}
+use Rattle.record.specs.declared.Ship.{Ship}
+use Rattle.record.specs.declared.Load.{Load}
+use Rattle.record.specs.declared.Column.{Column}
+use Rattle.record.specs.declared.Hold.{Hold}
+use Rattle.record.specs.Limits.{shipLimits, loadLimits, columnLimits, holdLimits, placeLimits}
+use Rattle.record.specs.Columns.{held, columnAnswer}
+use Rattle.request.specs.declared.Kind.{Kind}
+use Rattle.request.specs.declared.Kind.the-variants.{ShipLine, ColumnLine, LoadLine, HoldLine, DropLine, JudgeLine, ClearLine, NoShape}
+use Rattle.request.specs.Shape.{requestOf}
+use Rattle.request.specs.Carried.{carriedShip, carriedLoad, carriedColumn, carriedHold, carriedKind, carriedRequest}
+use Rattle.request.proofs.Kept.{same-ship, same-load, same-column, same-hold, kept-ship, kept-load, kept-column}
+use Rattle.request.proofs.Tidy.{kept-hold}
+use Rattle.panel.specs.declared.Condition.{Condition}
+use Rattle.panel.specs.Operations.{shipOperation, loadOperation, columnOperation, holdOperation}
+use Rattle.panel.specs.Step.{outcomeBy, outcomeOf, answered}
+
+and-false : (x : Bool) → (x && false) ≡ false
+and-false true = refl
+and-false false = refl
+
+module _ (c : Condition) where
+  ship-by : (s : Ship) (x : Bool) → shipLimits s ≡ x → shipOperation c (carriedShip s) ≡ shipOperation c s
+  unfolding shipOperation
+  ship-by s true e = rw (kept-ship s e)
+  ship-by s false e = rw (same-ship s, e)
+
+  load-by : (l : Load) (x : Bool) → loadLimits l ≡ x → loadOperation c (carriedLoad l) ≡ loadOperation c l
+  unfolding loadOperation
+  load-by l true e = rw (kept-load l e)
+  load-by l false e = rw (same-load l, e)
+
+  column-by : (k : Column) (x : Bool) → columnLimits k ≡ x → columnOperation c (carriedColumn k) ≡ columnOperation c k
+  unfolding columnOperation columnAnswer
+  column-by k true e = rw (kept-column k e)
+  column-by k false e = rw (same-column k, e)
+
+  hold-by : (n : ℕ) (h : Hold) (x : Bool) → holdLimits h ≡ x → (holdLimits h ≡ true → carriedHold h ≡ h) → holdOperation c n (carriedHold h) ≡ holdOperation c n h
+  unfolding holdOperation
+  hold-by n h true e k = rw (k e)
+  hold-by n h false e k = rw (same-hold h, e, and-false (placeLimits n))
+
+  same-outcome : (k : Kind) (h : Hold) (col : Column) → (holdLimits h ≡ true → carriedHold h ≡ h) → outcomeBy c (carriedKind k) (carriedHold h) (carriedColumn col) ≡ outcomeBy c k h col
+  same-outcome (ShipLine s) h col k = rw (ship-by s (shipLimits s) refl)
+  same-outcome ColumnLine h col k = rw (column-by col (columnLimits col) refl)
+  same-outcome (LoadLine l) h col k = rw (load-by l (loadLimits l) refl)
+  same-outcome (HoldLine n) h col k = rw (hold-by n h (holdLimits h) refl k)
+  same-outcome (DropLine n) h col k = refl
+  same-outcome JudgeLine h col k = refl
+  same-outcome ClearLine h col k = refl
+  same-outcome NoShape h col k = refl
+
+  pub carried-outcome : (ts : List Token) → outcomeOf c (carriedRequest (requestOf ts)) ≡ outcomeOf c (requestOf ts)
+  unfolding outcomeOf carriedRequest
+  carried-outcome ts = same-outcome (requestOf ts .kind) (requestOf ts .hold) (requestOf ts .column) (kept-hold ts)

@@ -1,0 +1,67 @@
+-- Demand 3: on a complete condition within its limits judge gives the verdict between the columns around D, and that verdict says what
+-- it says of the exact values.
+use mathlib.Core.Path.{_≡_, ap, _∙_}
+use Prim.Native.Nat.{ℕ, _+_, _<_}
+use native.Mathlib.Omega.{arith}
+use native.Mathlib.Numerals.{add-one}
+use lib.ListN.{length, getD}
+use lib.Seq.{getD-take}
+use borrow.Author.Tests.{le-leb}
+use Rattle.record.specs.declared.Column.{Column}
+use Rattle.record.specs.Columns.{held, noColumn}
+use Rattle.stability.specs.declared.Around.the-variants.{At}
+use Rattle.stability.specs.Arms.{columnsAround}
+use Rattle.stability.specs.Verdict.{verdictOf}
+use Rattle.stability.specs.Demand.{Judgeable}
+use Rattle.stability.proofs.Held.{around-at}
+use Rattle.stability.proofs.Demand3.{demand3, margins}
+use Rattle.request.specs.declared.Kind.the-variants.{JudgeLine}
+use Rattle.panel.specs.declared.Condition.{Condition}
+use Rattle.panel.specs.declared.Judged.the-variants.{Given}
+use Rattle.panel.specs.Judge.{weight, basisAt, judgedAt, judgedOf}
+use Rattle.panel.specs.Step.{verdictGiven}
+use Rattle.panel.specs.Within.{Within, Complete}
+use Rattle.panel.specs.Demands.{Ready, VerdictsHold}
+use Rattle.panel.proofs.Asked.{asked}
+use Rattle.panel.proofs.Sequence.{held-length}
+use Rattle.panel.proofs.Judging.{places-fitting, columns-ordered, holds-sound, load-within, ready-around, ready-judged}
+
+ready : (c : Condition) → Complete c → Ready c
+ready c m = record { ship = m .ship; columns = m .columns; load = m .load; fromFirst = m .fromFirst; toLast = m .toLast }
+
+module _ (c : Condition) (w : Within c) (m : Complete c) where
+  -- a column held has ten KN
+  ten : (i : ℕ) → i < length (held (c .columns)) → length (getD (held (c .columns)) i noColumn .kn) ≡ 10
+  ten i p =
+      let h : i < c .columns .count = omega (arith, held-length (c .columns) (places-fitting c w)) in
+      ap (λ (k : Column). length (k .kn)) (getD-take (c .columns .count) (c .columns .places) i noColumn h) ∙ w .knPlaces i h noColumn
+
+  judgeable : (i : ℕ) → columnsAround (c .load .d) (held (c .columns)) ≡ At i → Judgeable (basisAt c i)
+  judgeable i e =
+      let s = around-at (c .load .d) (held (c .columns)) i (columns-ordered c w) e in
+      record {
+        low = s .lowLimits;
+        high = rw add-one at (s .highLimits);
+        tenLow = ten i (omega (arith, s .place));
+        tenHigh = rw add-one at (ten (i + 1) (s .place));
+        load = load-within c w (m .load);
+        apart = rw add-one at (s .apart);
+        from = s .low;
+        to = rw add-one at (s .high);
+        weight = m .weights;
+      }
+
+  given : (i : ℕ) → columnsAround (c .load .d) (held (c .columns)) ≡ At i → judgedOf c ≡ Given (verdictOf (c .ship) (basisAt c i))
+  given i e =
+      ready-judged c w (ready c m) ∙ ap (judgedAt c) e ∙ rw (holds-sound c w, le-leb (weight c) 1000000000 (m .weights))
+
+pub verdicts-hold : VerdictsHold
+verdicts-hold c line lent w m a =
+    let p = ready-around c w (ready c m) in
+    record {
+      place = p .0;
+      around = p .1;
+      outcome = asked c line lent JudgeLine a ∙ ap (verdictGiven c) (given c w m (p .0) (p .1));
+      demand = demand3 (c .ship) (basisAt c (p .0)) (judgeable c w m (p .0) (p .1));
+      margins = margins (c .ship) (basisAt c (p .0)) (judgeable c w m (p .0) (p .1));
+    }

@@ -1,0 +1,118 @@
+-- What 00 says of each operation, and what it does: the tests passed, and the record is in the condition after.
+use mathlib.Core.Path.{_≡_, refl, sym, ap, _∙_}
+use mathlib.Core.Bool.{Bool, true, false, cond, _&&_}
+use Prim.Native.Nat.{ℕ, _<_}
+use native.Mathlib.Omega.{arith}
+use lib.Dec.{eqb}
+use Rattle.whole.proofs.Lists.{and-true}
+use Rattle.record.specs.declared.Ship.{Ship}
+use Rattle.record.specs.declared.Load.{Load}
+use Rattle.record.specs.declared.Column.{Column}
+use Rattle.record.specs.declared.Added.{Added}
+use Rattle.record.specs.declared.Added.the-variants.{Taken, Limits, Full, NotAbove}
+use Rattle.record.specs.declared.Hold.{Hold}
+use Rattle.record.specs.Filler.{noHold}
+use Rattle.record.specs.Limits.{shipLimits, loadLimits, holdLimits, placeLimits}
+use Rattle.record.specs.Columns.{held, columnAnswer, addedCode, withColumn}
+use Rattle.grain.specs.Sum.{holdFits}
+use Rattle.panel.specs.declared.Condition.{Condition}
+use Rattle.panel.specs.declared.Change.{Change}
+use Rattle.panel.specs.declared.Judged.{Judged}
+use Rattle.panel.specs.declared.Judged.the-variants.{Refused, Given}
+use Rattle.panel.specs.Condition.{withShip, withLoad, withColumns, withHold, holdAt, isHeld}
+use Rattle.panel.specs.Operations.{taken, refusedWith, shipOperation, loadOperation, columnChange, columnOperation, holdOperation, dropOperation}
+use Rattle.panel.specs.Step.{verdictGiven}
+
+-- a test that answers with 00 passed: the other answer has another code
+passed : (x : Bool) (a b : Change) → 0 < b .code → cond x a b .code ≡ 0 → (x ≡ true) × (a .code ≡ 0)
+passed true a b h e = (refl, e)
+passed false a b h e = absurd (omega arith)
+
+-- the answers to a column have each its own code
+abbrev decoded : ℕ → Added
+decoded n = cond (eqb n 0) Taken (cond (eqb n 20) Limits (cond (eqb n 23) Full NotAbove))
+
+decodes : (a : Added) → decoded (addedCode a) ≡ a
+decodes Taken = refl
+decodes Limits = refl
+decodes Full = refl
+decodes NotAbove = refl
+
+same-added : (a b : Added) → addedCode a ≡ addedCode b → a ≡ b
+same-added a b e = sym (decodes a) ∙ ap decoded e ∙ decodes b
+
+-- the tests of a hold
+pub record HoldPassed (n : ℕ) (h : Hold) : Type 0 where
+  pub place : placeLimits n ≡ true
+  pub limits : holdLimits h ≡ true
+  pub fits : holdFits h ≡ true
+
+module _ (c : Condition) where
+  pub ship-passed : (s : Ship) → shipOperation c s .code ≡ 0 → shipLimits s ≡ true
+  unfolding shipOperation
+  ship-passed s e = passed (shipLimits s) (taken (withShip c s)) (refusedWith 20 c) (omega arith) e .0
+
+  pub ship-taken : (s : Ship) → shipLimits s ≡ true → shipOperation c s ≡ taken (withShip c s)
+  unfolding shipOperation
+  ship-taken s e = rw e
+
+  pub load-passed : (l : Load) → loadOperation c l .code ≡ 0 → loadLimits l ≡ true
+  unfolding loadOperation
+  load-passed l e = passed (loadLimits l) (taken (withLoad c l)) (refusedWith 20 c) (omega arith) e .0
+
+  pub load-taken : (l : Load) → loadLimits l ≡ true → loadOperation c l ≡ taken (withLoad c l)
+  unfolding loadOperation
+  load-taken l e = rw e
+
+  -- a column's code says which answer it was
+  module _ (k : Column) where
+    change-code : (a : Added) → columnChange c k a .code ≡ addedCode a
+    change-code Taken = refl
+    change-code Limits = refl
+    change-code Full = refl
+    change-code NotAbove = refl
+
+    pub column-answered : (a : Added) → columnOperation c k .code ≡ addedCode a → columnAnswer (held (c .columns)) k ≡ a
+    unfolding columnOperation
+    column-answered a e = same-added _ a (sym (change-code (columnAnswer (held (c .columns)) k)) ∙ e)
+
+    pub column-by : (a : Added) → columnAnswer (held (c .columns)) k ≡ a → columnOperation c k ≡ columnChange c k a
+    unfolding columnOperation
+    column-by a e = ap (columnChange c k) e
+
+    pub column-passed : columnOperation c k .code ≡ 0 → columnAnswer (held (c .columns)) k ≡ Taken
+    column-passed e = column-answered Taken e
+
+    pub column-taken : columnAnswer (held (c .columns)) k ≡ Taken → columnOperation c k ≡ taken (withColumns c (withColumn (c .columns) k))
+    column-taken e = column-by Taken e
+
+  module _ (n : ℕ) (h : Hold) where
+    pub hold-passed : holdOperation c n h .code ≡ 0 → HoldPassed n h
+    unfolding holdOperation
+    hold-passed e =
+        let t = passed (placeLimits n && holdLimits h) (cond (holdFits h) (taken (withHold c n h)) (refusedWith 21 c)) (refusedWith 20 c) (omega arith) e in
+        let u = and-true (placeLimits n) (holdLimits h) (t .0) in
+        record {
+          place = u .0;
+          limits = u .1;
+          fits = passed (holdFits h) (taken (withHold c n h)) (refusedWith 21 c) (omega arith) (t .1) .0;
+        }
+
+    pub hold-taken : HoldPassed n h → holdOperation c n h ≡ taken (withHold c n h)
+    unfolding holdOperation
+    hold-taken p = rw (p .place, p .limits, p .fits)
+
+  pub drop-passed : (n : ℕ) → dropOperation c n .code ≡ 0 → (placeLimits n ≡ true) × (isHeld (holdAt c n) ≡ true)
+  unfolding dropOperation
+  drop-passed n e =
+      let t = passed (placeLimits n) (cond (isHeld (holdAt c n)) (taken (withHold c n noHold)) (refusedWith 24 c)) (refusedWith 20 c) (omega arith) e in
+      (t .0, passed (isHeld (holdAt c n)) (taken (withHold c n noHold)) (refusedWith 24 c) (omega arith) (t .1) .0)
+
+  pub drop-taken : (n : ℕ) → placeLimits n ≡ true → isHeld (holdAt c n) ≡ true → dropOperation c n ≡ taken (withHold c n noHold)
+  unfolding dropOperation
+  drop-taken n p h = rw (p, h)
+
+  -- judge changes nothing
+  pub judge-same : (j : Judged) → verdictGiven c j .after ≡ c
+  judge-same (Refused code) = refl
+  judge-same (Given v) = refl

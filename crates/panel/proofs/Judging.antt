@@ -1,0 +1,94 @@
+-- Judge on a condition within its limits: with a ship, two columns, a load and D between the first and the last column it comes to the
+-- columns around D.
+use mathlib.Core.Path.{_≡_, refl}
+use mathlib.Core.Bool.{Bool, true, false, not, _&&_, _||_}
+use mathlib.Core.List.{List, [], _∷_}
+use Prim.Native.Nat.{ℕ, suc, _+_, _≤_, _<_}
+use native.Mathlib.Omega.{arith}
+use native.Mathlib.Nat.{lt-of-not-le}
+use native.Mathlib.Decide.{decLe}
+use lib.ListN.{length, getD}
+use borrow.Author.Tests.{le-leb}
+use Rattle.whole.specs.Lists.{all}
+use Rattle.record.specs.declared.Column.{Column}
+use Rattle.record.specs.declared.Hold.{Hold}
+use Rattle.record.specs.Filler.{noHold}
+use Rattle.record.specs.Limits.{loadLimits, holdLimits}
+use Rattle.record.specs.Columns.{held, noColumn, inOrder}
+use Rattle.grain.specs.Sum.{holdFits}
+use Rattle.stability.specs.declared.Around.{Around}
+use Rattle.stability.specs.declared.Around.the-variants.{At, Outside}
+use Rattle.stability.specs.Arms.{columnsAround}
+use Rattle.stability.proofs.Held.{lastD, below-outside, above-outside, between-found}
+use Rattle.panel.specs.declared.Condition.{Condition}
+use Rattle.panel.specs.Condition.{empty, isHeld}
+use Rattle.panel.specs.Judge.{soundPlace, judgedAt, judgedOf}
+use Rattle.panel.specs.Within.{Within}
+use Rattle.panel.specs.Demands.{Ready}
+use Rattle.panel.proofs.Effects.{HoldPassed, ship-passed, load-passed, hold-passed}
+use Rattle.panel.proofs.Sequence.{Fitting, taken-order}
+
+-- ---- D that has columns around it is between the first and the last
+pub inside-ends : (d : ℕ) (ks : List Column) (i : ℕ) → inOrder ks ≡ true → columnsAround d ks ≡ At i → (getD ks 0 noColumn .d ≤ d) × (d ≤ lastD ks)
+unfolding columnsAround
+inside-ends d [] i o e = let z : _≡_ {A = ℕ} 0 1 = cc in absurd (omega arith)
+inside-ends d (a ∷ ks) i o e = (first (decLe (a .d) d), last (decLe d (lastD (a ∷ ks))))
+  where
+    clash : columnsAround d (a ∷ ks) ≡ Outside → ⊥
+    clash z = let y : _≡_ {A = ℕ} 0 1 = cc in omega arith
+
+    first : Dec (a .d ≤ d) → a .d ≤ d
+    first (yes h) = h
+    first (no h) = absurd (clash (below-outside d a ks o (lt-of-not-le h)))
+
+    last : Dec (d ≤ lastD (a ∷ ks)) → d ≤ lastD (a ∷ ks)
+    last (yes h) = h
+    last (no h) = absurd (clash (above-outside d a ks o (lt-of-not-le h)))
+
+-- and there, of two or more, two neighbours stand around it
+some-place : (d : ℕ) (ks : List Column) (x : Around) → 2 ≤ length ks → getD ks 0 noColumn .d ≤ d → d ≤ lastD ks → columnsAround d ks ≡ x → (i : ℕ) × (columnsAround d ks ≡ At i)
+some-place d [] x n f l e = absurd (omega arith)
+some-place d (a ∷ []) x n f l e = absurd (omega arith)
+some-place d (a ∷ b ∷ ks) (At i) n f l e = (i, e)
+some-place d (a ∷ b ∷ ks) Outside n f l e = absurd (between-found d a b ks f l e)
+
+-- ---- what every place passes, all pass
+all-of : {X : Type 0} (f : X → Bool) (l : List X) (d : X) → ((i : ℕ) → i < length l → f (getD l i d) ≡ true) → all f l ≡ true
+unfolding all
+all-of f [] d h = refl
+all-of f (x ∷ l) d h = rw (h 0 (omega arith), all-of f l d (λ i p. h (suc i) (omega arith)))
+
+sound-by : (h : Hold) (x : Bool) → isHeld h ≡ x → (isHeld h ≡ true → (holdLimits h ≡ true) × (holdFits h ≡ true)) → (not x || holdLimits h && holdFits h) ≡ true
+sound-by h true e f = let t = f e in rw (t .0, t .1)
+sound-by h false e f = refl
+
+-- ---- a condition within its limits
+module _ (c : Condition) (w : Within c) where
+  pub places-fitting : Fitting (c .columns)
+  places-fitting = record { places = w .columnPlaces; count = w .columnCount }
+
+  pub columns-ordered : inOrder (held (c .columns)) ≡ true
+  unfolding inOrder
+  columns-ordered = taken-order empty (held (c .columns)) (record { places = refl; count = omega arith }) refl (w .columns)
+
+  pub hold-sound : (n : ℕ) → n < 16 → isHeld (getD (c .holds) n noHold) ≡ true → HoldPassed (n + 1) (getD (c .holds) n noHold)
+  hold-sound n p e = hold-passed empty (n + 1) (getD (c .holds) n noHold) (w .holds n p e)
+
+  pub holds-sound : all soundPlace (c .holds) ≡ true
+  holds-sound =
+      all-of soundPlace (c .holds) noHold
+      (λ i p. let h = getD (c .holds) i noHold in
+      sound-by h (isHeld h) refl (λ e. let t = hold-sound i (omega (arith, w .holdPlaces)) e in (t .limits, t .fits)))
+
+  pub load-within : c .loaded ≡ true → loadLimits (c .load) ≡ true
+  load-within e = load-passed empty (c .load) (w .load e)
+
+  -- judge comes to the columns around D
+  module _ (r : Ready c) where
+    pub ready-around : (i : ℕ) × (columnsAround (c .load .d) (held (c .columns)) ≡ At i)
+    ready-around = some-place (c .load .d) (held (c .columns)) _ (r .columns) (r .fromFirst) (r .toLast) refl
+
+    pub ready-judged : judgedOf c ≡ judgedAt c (columnsAround (c .load .d) (held (c .columns)))
+    unfolding judgedOf
+    ready-judged =
+        rw (r .ship, ship-passed empty (c .ship) (w .ship (r .ship)), le-leb 2 (length (held (c .columns))) (r .columns), columns-ordered, r .load, load-within (r .load))

@@ -1,0 +1,15 @@
+pub mod Asked
+pub mod Carrying
+pub mod Codes
+pub mod Columns
+pub mod Demand1
+pub mod Demand2
+pub mod Demand3
+pub mod Demands
+pub mod Effects
+pub mod Judging
+pub mod Reached
+pub mod Sequence
+pub mod Shown
+pub mod Taking
+pub mod Weighing

@@ -1,0 +1,74 @@
+-- Columns sent one after the other, each taken: then all of them are in order; and one more that is taken is taken behind them.
+use mathlib.Core.Path.{_≡_, ap, _∙_}
+use mathlib.Core.Bool.{true, _&&_}
+use mathlib.Core.List.{List, [], _∷_, _++_, append-nil}
+use Prim.Native.Nat.{_≤_, _<_}
+use native.Mathlib.Omega.{arith}
+use native.Mathlib.Numerals.{add-one}
+use lib.Dec.{ltb}
+use lib.ListN.{length, length-set}
+use lib.Seq.{length-take-le, take-suc-set, append-snoc}
+use Rattle.whole.proofs.Lists.{and-true}
+use Rattle.record.specs.declared.Column.{Column}
+use Rattle.record.specs.declared.Columns.{Columns}
+use Rattle.record.specs.declared.Added.the-variants.{Taken}
+use Rattle.record.specs.Limits.{columnLimits}
+use Rattle.record.specs.Columns.{held, isAbove, columnAnswer, inOrder, withColumn}
+use Rattle.panel.specs.declared.Condition.{Condition}
+use Rattle.panel.specs.Condition.{withColumns}
+use Rattle.panel.specs.Operations.{columnOperation}
+use Rattle.panel.specs.Within.{ColumnsTaken}
+use Rattle.panel.proofs.Taking.{taken-is}
+use Rattle.panel.proofs.Effects.{column-passed, column-taken}
+
+-- columns in their twenty places, and one more of them
+pub record Fitting (cs : Columns) : Type 0 where
+  pub places : length (cs .places) ≡ 20
+  pub count : cs .count ≤ 20
+
+pub held-length : (cs : Columns) → Fitting cs → length (held cs) ≡ cs .count
+held-length cs f = length-take-le (cs .count) (cs .places) (omega (arith, f .places, f .count))
+
+module _ (cs : Columns) (k : Column) (f : Fitting cs) (e : columnAnswer (held cs) k ≡ Taken) where
+  pub below-twenty : cs .count < 20
+  below-twenty = omega (arith, taken-is (held cs) k e .below, held-length cs f)
+
+  pub fitting-more : Fitting (withColumn cs k)
+  fitting-more = record { places = length-set (cs .places) (cs .count) k ∙ f .places; count = omega (arith, below-twenty) }
+
+  pub held-more : held (withColumn cs k) ≡ held cs ++ (k ∷ [])
+  held-more = rw add-one (take-suc-set (cs .places) (cs .count) k (omega (arith, below-twenty, f .places)))
+
+-- a column above those in order is in order behind them
+pub order-more : (ks : List Column) (k : Column) → inOrder ks ≡ true → columnLimits k ≡ true → isAbove (k .d) ks ≡ true → inOrder (ks ++ k ∷ []) ≡ true
+unfolding inOrder isAbove
+order-more [] k o l a = l
+order-more (m ∷ []) k o l a = rw (o, a, l)
+order-more (m ∷ p ∷ ks) k o l a =
+    let t = and-true (columnLimits m && ltb (m .d) (p .d)) (inOrder (p ∷ ks)) o in
+    rw (t .0, order-more (p ∷ ks) k (t .1) l a)
+
+-- the condition after a column that was taken, the column held last
+module _ (c : Condition) (k : Column) (e : columnOperation c k .code ≡ 0) where
+  abbrev next : Condition
+  next = withColumns c (withColumn (c .columns) k)
+
+  next-is : columnOperation c k .after ≡ next
+  next-is = ap (λ ch. ch .after) (column-taken c k (column-passed c k e))
+
+pub taken-order : (c : Condition) (ks : List Column) → Fitting (c .columns) → inOrder (held (c .columns)) ≡ true → ColumnsTaken c ks → inOrder (held (c .columns) ++ ks) ≡ true
+taken-order c [] f o t = rw append-nil o
+taken-order c (k ∷ ks) f o t =
+    let e = column-passed c k (t .0) in
+    let p = taken-is (held (c .columns)) k e in
+    let h = held-more (c .columns) k f e in
+    let r = taken-order (next c k (t .0)) ks (fitting-more (c .columns) k f e) (rw h (order-more (held (c .columns)) k o (p .limits) (p .above))) (rw (next-is c k (t .0)) at (t .1)) in
+    rw (h, append-snoc) at r
+
+pub taken-more : (c : Condition) (ks : List Column) (k : Column) → Fitting (c .columns) → ColumnsTaken c ks → columnAnswer (held (c .columns) ++ ks) k ≡ Taken → ColumnsTaken c (ks ++ k ∷ [])
+taken-more c [] k f t a = (ap (λ ch. ch .code) (column-taken c k (rw append-nil at a)), tt)
+taken-more c (m ∷ ks) k f t a =
+    let e = column-passed c m (t .0) in
+    let h = held-more (c .columns) m f e in
+    let r = taken-more (next c m (t .0)) ks k (fitting-more (c .columns) m f e) (rw (next-is c m (t .0)) at (t .1)) (rw (h, append-snoc) a) in
+    (t .0, rw (next-is c m (t .0)) r)

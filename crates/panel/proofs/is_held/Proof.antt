@@ -1,0 +1,31 @@
+use mathlib.Core.Path.{_≡_, sym, ap}
+use Prim.Native.Nat.{_-_}
+use lib.Dec.{ltb}
+use lib.ListN.{length}
+use Rattle.whole.proofs.Lists.{unmapped}
+use Rattle.panel.proofs.Taking.{count-at}
+use borrow.Author.Needs.{needs}
+use Rattle.panel.proofs.is_held.Statement.{statement}
+use Rattle.panel.proofs.is_held.Tie as tie
+
+sub-at : tie.Need-sub-at
+sub-at c = search needs
+
+cast-at : tie.Need-cast-at
+cast-at c = search needs
+
+mul-h : tie.Need-mul-h
+mul-h c = search needs
+
+element-copy-out-h : tie.Need-element-copy-out-h
+element-copy-out-h c = search needs
+
+returns : tie.Need-returns
+returns c =
+    let hs = c .before .before .before .args .t1 .holds in
+    let n = c .before .before .before .args .n in
+    let l : length hs ≡ 16 = search (unmapped, needs) in
+    ap (ltb 0) (sym (count-at hs n l (c .before .before .before .pre)))
+
+pub is-held-spec : {M : Type 1} → statement M
+is-held-spec = tie.close (tie.spec sub-at cast-at mul-h element-copy-out-h returns)

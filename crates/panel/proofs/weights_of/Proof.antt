@@ -1,0 +1,107 @@
+use mathlib.Core.Path.{_≡_, sym, _∙_}
+use Prim.Native.Nat.{_≤_, _-_}
+use native.Mathlib.Omega.{arith}
+use lib.ListN.{length}
+use Rattle.whole.proofs.Lists.{unmapped}
+use Rattle.panel.proofs.Taking.{pastHold}
+use Rattle.panel.proofs.Weighing.{Standing, standing-first, standing-next, all-weighed, place-unsound, place-too-much}
+use borrow.Author.Needs.{needs}
+use Rattle.panel.proofs.weights_of.Statement.{statement}
+use Rattle.panel.proofs.weights_of.Tie as tie
+
+abbrev Inv-loop : tie.InvT-loop
+Inv-loop c sum₀ i₀ sum i = Standing (c .holds) i sum × (sum ≤ 1000000000) × (i ≤ 16)
+
+abbrev μ-loop : tie.MeasureT-loop
+μ-loop c sum₀ i₀ sum i = 16 - i
+
+loop-holds : tie.Need-loop-holds Inv-loop μ-loop
+loop-holds c =
+    let hs = c .args .t1 .holds in
+    let l : length hs ≡ 16 = search (unmapped, needs) in
+    (standing-first hs l, omega arith, omega arith)
+
+mul-h : tie.Need-mul-h Inv-loop μ-loop
+mul-h c = search needs
+
+element-copy-out-h : tie.Need-element-copy-out-h Inv-loop μ-loop
+element-copy-out-h c = search needs
+
+place-weight-requires : tie.Need-place-weight-requires Inv-loop μ-loop
+place-weight-requires c κs = search needs
+
+enum-known-w : tie.Need-enum-known-w Inv-loop μ-loop
+enum-known-w c = search needs
+
+enum-told : tie.Need-enum-told Inv-loop μ-loop
+enum-told c = search needs
+
+returns : tie.Need-returns Inv-loop μ-loop
+returns c =
+    let hs = c .before .before .before .before .before .before .args .t1 .holds in
+    let i = c .before .before .before .before .before .loop .i in
+    let sum = c .before .before .before .before .before .loop .sum in
+    let v = c .before .before .before .before .before .loop .inv in
+    place-unsound hs i sum pastHold (v .0) (omega arith) (sym (c .before .before .place-weight .ensures) ∙ c .enum-told .given .1)
+
+sub-if1 : tie.Need-sub-if1 Inv-loop μ-loop
+sub-if1 c = search needs
+
+returns-2 : tie.Need-returns-2 Inv-loop μ-loop
+returns-2 c =
+    let hs = c .before .before .before .before .before .before .before .before .args .t1 .holds in
+    let i = c .before .before .before .before .before .before .before .loop .i in
+    let sum = c .before .before .before .before .before .before .before .loop .sum in
+    let v = c .before .before .before .before .before .before .before .loop .inv in
+    let w = c .before .before .w .given .0 .0 in
+    let e = sym (c .before .before .before .before .place-weight .ensures) ∙ c .before .before .w .given .1 in
+    place-too-much hs i sum pastHold (v .0) (omega arith) w e (omega arith)
+
+add-sum : tie.Need-add-sum Inv-loop μ-loop
+add-sum c = search needs
+
+add-i : tie.Need-add-i Inv-loop μ-loop
+add-i c = search needs
+
+loop-less : tie.Need-loop-less Inv-loop μ-loop
+loop-less c = search needs
+
+loop-again : tie.Need-loop-again Inv-loop μ-loop
+loop-again c =
+    let hs = c .before .before .before .before .before .before .before .before .args .t1 .holds in
+    let i = c .before .before .before .before .before .before .before .loop .i in
+    let sum = c .before .before .before .before .before .before .before .loop .sum in
+    let v = c .before .before .before .before .before .before .before .loop .inv in
+    let w = c .before .before .w .given .0 .0 in
+    let e = sym (c .before .before .before .before .place-weight .ensures) ∙ c .before .before .w .given .1 in
+    let n = standing-next hs i sum pastHold (v .0) (omega arith) w e (omega arith) in
+    (n, omega arith, omega arith)
+
+returns-3 : tie.Need-returns-3 Inv-loop μ-loop
+returns-3 c =
+    let hs = c .before .before .args .t1 .holds in
+    let i = c .before .loop .i in
+    let sum = c .before .loop .sum in
+    let v = c .before .loop .inv in
+    all-weighed hs i sum pastHold (v .0) (omega arith)
+
+pub weights-of-spec : {M : Type 1} → statement M
+weights-of-spec =
+    tie.close
+    (tie.spec
+    Inv-loop
+    μ-loop
+    loop-holds
+    mul-h
+    element-copy-out-h
+    place-weight-requires
+    enum-known-w
+    enum-told
+    returns
+    sub-if1
+    returns-2
+    add-sum
+    add-i
+    loop-less
+    loop-again
+    returns-3)
