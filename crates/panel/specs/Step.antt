@@ -15,7 +15,7 @@ use Rattle.text.specs.Line.{readingOf, readingCode}
 use Rattle.request.specs.declared.Kind.{Kind}
 use Rattle.request.specs.declared.Kind.the-variants.{ShipLine, ColumnLine, LoadLine, HoldLine, DropLine, JudgeLine, ClearLine, NoShape}
 use Rattle.request.specs.declared.Request.{Request}
-use Rattle.request.specs.Shape.{requestOf}
+use Rattle.request.specs.Shape.{requestOf, kindCode}
 use lib.ListN.{length}
 use Rattle.reply.specs.Written.{over}
 use Rattle.reply.specs.Replies.{answerReply, refusalReply, verdictReply}
@@ -56,7 +56,7 @@ outcomeBy c (HoldLine n) h k = answered (holdOperation c n h)
 outcomeBy c (DropLine n) h k = answered (dropOperation c n)
 outcomeBy c JudgeLine h k = verdictGiven c (judgedOf c)
 outcomeBy c ClearLine h k = answered (taken empty)
-outcomeBy c NoShape h k = answered (refusedWith 14 c)
+outcomeBy c NoShape h k = answered (refusedWith (kindCode NoShape) c)
 
 unfoldable pub outcomeOf : Condition → Request → Outcome
 outcomeOf c r = outcomeBy c (r .kind) (r .hold) (r .column)

@@ -61,12 +61,6 @@ pub struct Stepped {
     pub after: Condition,
 }
 
-fn both(a: bool, b: bool) -> bool
-    ensures { λ r. ⌜ r ≡ (a && b) ⌝ }
-{
-    if a { b } else { false }
-}
-
 // ---- the condition
 
 // The condition at the start, and after a clear.
@@ -241,7 +235,7 @@ fn in_order(cs: Columns) -> bool
 fn enough_columns(cs: Columns) -> bool
     ensures { λ r. ⌜ r ≡ (leb 2 (length (held cs)) && inOrder (held cs)) ⌝ }
 {
-    both(2 <= cs.count, in_order(cs))
+    whole::both(2 <= cs.count, in_order(cs))
 }
 
 // The weight moment of one place: nothing where it holds no hold.
@@ -316,7 +310,7 @@ fn judge(c: Condition) -> Judged
     ensures { λ r. ⌜ r ≡ judgedOf c ⌝ }
 {
     let ship = c.ship;
-    if !both(c.shipped, record::ship_limits(ship)) {
+    if !whole::both(c.shipped, record::ship_limits(ship)) {
         return Judged::Refused(30);
     }
     let columns = c.columns;
@@ -324,7 +318,7 @@ fn judge(c: Condition) -> Judged
         return Judged::Refused(31);
     }
     let load = c.load;
-    if !both(c.loaded, record::load_limits(load)) {
+    if !whole::both(c.loaded, record::load_limits(load)) {
         return Judged::Refused(32);
     }
     let around = stability::columns_around(columns, load.d);

@@ -1,5 +1,5 @@
 -- Unused places of a record's arrays hold one fixed filler, so that equal records are equal values.
-use mathlib.Core.List.{List, [], _∷_, _++_}
+use mathlib.Core.List.{List, _++_}
 use Prim.Native.Nat.{ℕ, _-_}
 use lib.ListN.{length, replicate}
 use Rattle.record.specs.declared.Mode.the-variants.{Trimmed}

@@ -1,7 +1,6 @@
 // The records of a loading condition, and the limits of their numbers (code 20).
 ghost use mathlib.Core.Path.{_≡_};
-ghost use mathlib.Core.Bool.{_&&_};
-ghost use Prim.Native.Nat.{ℕ, _≤_, _<_};
+ghost use Prim.Native.Nat.{_≤_, _<_};
 ghost use Rattle.whole.specs.Lists.{within, all, sumOf};
 ghost use Rattle.record.specs.Limits.{edge, displacement, shipLimits, loadLimits, columnLimits, cellWidth, cellLip, cellLimits, cellsOf, sectionLimits, slackLimits, partLimits, partsOf, holdLimits, placeLimits};
 ghost use Rattle.record.specs.Columns.{held, columnAnswer, noColumn, noColumns, withColumn};
@@ -101,25 +100,18 @@ pub enum Added {
     NotAbove,
 }
 
-// Both tests, each made: a chain of these has no branch.
-fn both(a: bool, b: bool) -> bool
-    ensures { λ r. ⌜ r ≡ (a && b) ⌝ }
-{
-    if a { b } else { false }
-}
-
 // Whether lo <= v <= hi.
 fn is_within(lo: u16, hi: u16, v: u16) -> bool
     ensures { λ r. ⌜ r ≡ within lo hi v ⌝ }
 {
-    both(lo <= v, v <= hi)
+    whole::both(lo <= v, v <= hi)
 }
 
 // Whether d is a displacement of a ship.
 fn is_displacement(d: u32) -> bool
     ensures { λ r. ⌜ r ≡ displacement d ⌝ }
 {
-    both(100 <= d, d <= 400000)
+    whole::both(100 <= d, d <= 400000)
 }
 
 fn edge_of(rule: Rule) -> u16
@@ -135,7 +127,7 @@ pub fn ship_limits(s: Ship) -> bool
     ensures { λ r. ⌜ r ≡ shipLimits s ⌝ }
 {
     let rule = s.rule;
-    both(
+    whole::both(
         is_within(1, 9000, edge_of(rule)),
         is_within(1, 9000, s.flood),
     )
@@ -144,8 +136,8 @@ pub fn ship_limits(s: Ship) -> bool
 pub fn load_limits(l: Load) -> bool
     ensures { λ r. ⌜ r ≡ loadLimits l ⌝ }
 {
-    both(
-        both(is_displacement(l.d), is_within(1, 50000, l.kg)),
+    whole::both(
+        whole::both(is_displacement(l.d), is_within(1, 50000, l.kg)),
         is_within(0, 10000, l.fs),
     )
 }
@@ -168,8 +160,8 @@ pub fn column_limits(k: Column) -> bool
     ensures { λ r. ⌜ r ≡ columnLimits k ⌝ }
 {
     let kn = k.kn;
-    let head = both(is_displacement(k.d), is_within(1, 50000, k.km));
-    both(both(head, kn[0] == 0), values_within(kn))
+    let head = whole::both(is_displacement(k.d), is_within(1, 50000, k.km));
+    whole::both(whole::both(head, kn[0] == 0), values_within(kn))
 }
 
 pub fn width_of(cell: Cell) -> u16
@@ -221,9 +213,9 @@ pub fn lip_of(cell: Cell) -> u16
 fn wing_limits(width: u16, dist: u16, girder: u16, lip: u16) -> bool
     ensures { λ r. ⌜ r ≡ cellLimits (Cell.Wing width dist girder lip) ⌝ }
 {
-    let sizes = both(is_within(1, 40000, width), is_within(0, 20000, dist));
-    both(
-        both(sizes, is_within(0, 3000, girder)),
+    let sizes = whole::both(is_within(1, 40000, width), is_within(0, 20000, dist));
+    whole::both(
+        whole::both(sizes, is_within(0, 3000, girder)),
         is_within(0, 10000, lip),
     )
 }
@@ -231,8 +223,8 @@ fn wing_limits(width: u16, dist: u16, girder: u16, lip: u16) -> bool
 fn hatch_limits(width: u16, opening: u16, lip: u16) -> bool
     ensures { λ r. ⌜ r ≡ cellLimits (Cell.Hatch width opening lip) ⌝ }
 {
-    both(
-        both(is_within(1, 40000, width), is_within(0, 3000, opening)),
+    whole::both(
+        whole::both(is_within(1, 40000, width), is_within(0, 3000, opening)),
         is_within(0, 10000, lip),
     )
 }
@@ -240,8 +232,8 @@ fn hatch_limits(width: u16, opening: u16, lip: u16) -> bool
 fn void_limits(width: u16, depth: u16, lip: u16) -> bool
     ensures { λ r. ⌜ r ≡ cellLimits (Cell.Void width depth lip) ⌝ }
 {
-    both(
-        both(is_within(1, 40000, width), is_within(0, 5000, depth)),
+    whole::both(
+        whole::both(is_within(1, 40000, width), is_within(0, 5000, depth)),
         is_within(0, 10000, lip),
     )
 }
@@ -314,8 +306,8 @@ fn section_limits(p: Part) -> bool
     if !is_within(1, 8, count) {
         return false;
     }
-    both(
-        both(is_within(1, 60000, p.length), cells_within(p)),
+    whole::both(
+        whole::both(is_within(1, 60000, p.length), cells_within(p)),
         width_together(p) <= 40000,
     )
 }
@@ -324,12 +316,12 @@ fn section_limits(p: Part) -> bool
 fn slack_limits(p: Part) -> bool
     ensures { λ r. ⌜ r ≡ slackLimits p ⌝ }
 {
-    let sizes = both(
+    let sizes = whole::both(
         is_within(1, 60000, p.length),
         is_within(1, 40000, p.breadth),
     );
-    both(
-        both(sizes, is_within(1, 30000, p.void)),
+    whole::both(
+        whole::both(sizes, is_within(1, 30000, p.void)),
         is_within(1, 30000, p.grain),
     )
 }
@@ -371,14 +363,14 @@ pub fn hold_limits(h: Hold) -> bool
     if !is_within(1, 6, count) {
         return false;
     }
-    both(is_within(5000, 40000, head.factor), parts_within(h))
+    whole::both(is_within(5000, 40000, head.factor), parts_within(h))
 }
 
 // The number of a hold.
 pub fn place_limits(n: u32) -> bool
     ensures { λ r. ⌜ r ≡ placeLimits n ⌝ }
 {
-    both(1 <= n, n <= 16)
+    whole::both(1 <= n, n <= 16)
 }
 
 // What unused places hold.

@@ -1,4 +1,5 @@
--- What a field carries serves the limits: no test sees the difference, and a record within its limits is carried as it is.
+-- What a field carries serves the limits: no test sees the difference, and a ship, load, column or cell within its limits is
+-- carried as it is. For a hold see Tidy.antt.
 use mathlib.Core.Path.{_≡_, refl, sym, ap, _∙_}
 use mathlib.Core.Bool.{Bool, true, false, _&&_}
 use mathlib.Core.List.{List, [], _∷_, map, map-map}
@@ -8,7 +9,7 @@ use lib.Dec.{leb, ltb, eqb}
 use lib.ListN.{getD, take, List·getD-map}
 use borrow.Author.Tests.{lt-leb, leb-true, leb-false, ltb-true, ne-eqb}
 use Rattle.whole.specs.Lists.{within, all, sumOf}
-use Rattle.whole.proofs.Lists.{and-true, within-true}
+use Rattle.whole.proofs.Lists.{and-true, and-false, within-true}
 use Rattle.record.specs.declared.Rule.{Rule}
 use Rattle.record.specs.declared.Rule.the-variants.{New, Old}
 use Rattle.record.specs.declared.Ship.{Ship}
@@ -24,10 +25,6 @@ use Rattle.record.specs.Limits.{edge, displacement, shipLimits, loadLimits, col
 use Rattle.request.specs.Carried.{carried, carriedRule, carriedShip, carriedLoad, carriedColumn, carriedCell, carriedSlot, carriedPart, carriedHold}
 
 -- a number that fits its field is carried as it is; any other is above every limit, and so is 65,535
-and-false : (b : Bool) → (b && false) ≡ false
-and-false true = refl
-and-false false = refl
-
 above : (lo hi v : ℕ) → hi < v → within lo hi v ≡ false
 unfolding within
 above lo hi v h = rw (lt-leb v hi h) (and-false (leb lo v))

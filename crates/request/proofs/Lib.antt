@@ -1,4 +1,4 @@
-pub mod Readings
+pub mod Walks
 pub mod Records
 pub mod Kept
 pub mod Yields

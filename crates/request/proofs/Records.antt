@@ -1,7 +1,7 @@
 -- Laws of the records that the shapes make.
 use mathlib.Core.Path.{_≡_, refl, sym, _∙_, ap}
 use mathlib.Core.Bool.{true, false}
-use mathlib.Core.List.{List, [], _∷_, _++_, map}
+use mathlib.Core.List.{List, [], _∷_, map, map-map, map-append}
 use Prim.Native.Nat.{ℕ, zero, suc, _-_, _<_}
 use native.Mathlib.Omega.{arith}
 use lib.ListN.{length, take, drop, replicate, length-map}
@@ -17,7 +17,7 @@ use Rattle.request.specs.Grammar.{Parsed, got, none, _andThen_, close?, 
 use Rattle.request.specs.Shape.{nth, sectionRecord, slackRecord, holdRecord, holdRequest, plain, bare?}
 use Rattle.request.specs.Carried.{carry, carried, carriedCell, carriedSlot, slotOf, carriedPart, carriedKind, carriedRequest}
 use Rattle.request.specs.Places.{Ends, Fills, isEnd}
-use Rattle.request.proofs.Readings.{carries, carries-none}
+use Rattle.request.proofs.Walks.{carries, carries-none}
 
 -- a cell in its place
 pub slot-of : (p : Parsed Cell) → carry slotOf p ≡ carry (λ c. record { cell = c }) (carry carriedCell p)
@@ -25,10 +25,6 @@ slot-of (got c ts) = refl
 slot-of none = refl
 
 -- filled places, as they are carried
-map-append : {A B : Type 0} (f : A → B) (xs ys : List A) → map f (xs ++ ys) ≡ map f xs ++ map f ys
-map-append f [] ys = refl
-map-append f (x ∷ xs) ys = ap (λ zs. f x ∷ zs) (map-append f xs ys)
-
 map-replicate : {A B : Type 0} (f : A → B) (n : ℕ) (d : A) → map f (replicate n d) ≡ replicate n (f d)
 map-replicate f zero d = refl
 map-replicate f (suc n) d = ap (λ zs. f d ∷ zs) (map-replicate f n d)
@@ -36,10 +32,6 @@ map-replicate f (suc n) d = ap (λ zs. f d ∷ zs) (map-replicate f n d)
 pub map-padded : {A B : Type 0} (f : A → B) (n : ℕ) (d : A) (xs : List A) → map f (padded n d xs) ≡ padded n (f d) (map f xs)
 unfolding padded
 map-padded f n d xs = map-append f xs (replicate (n - length xs) d) ∙ rw (map-replicate f (n - length xs) d, length-map xs f)
-
-map-map : {A B C : Type 0} (g : B → C) (f : A → B) (xs : List A) → map g (map f xs) ≡ map (λ x. g (f x)) xs
-map-map g f [] = refl
-map-map g f (x ∷ xs) = ap (λ zs. g (f x) ∷ zs) (map-map g f xs)
 
 -- n items were read: none only where n is 0
 one-of : {A B : Type 0} (g : A → B) (xs : List A) (n : ℕ) (ys : List B) (us : List Token) → ys ≡ map g xs → length ys ≡ n → 0 < n → someOf xs us ≡ got xs us

@@ -1,9 +1,8 @@
 -- How numbers that were read are carried. A line may say numbers up to 999,999,999, and all but D are stored in 16 bits: a
 -- number above 65,535 is carried as 65,535, which is above every limit of those fields too. No limit test sees the
--- difference, and a record within its limits is carried as it is (proofs/Kept.antt).
-use mathlib.Core.Path.{_≡_}
-use mathlib.Core.Bool.{Bool, true}
-use mathlib.Core.List.{List, [], _∷_, map}
+-- difference. Any ship, load, column or cell within its limits is carried as it is (proofs/Kept.antt); a hold within its
+-- limits only where it was read, since its limits do not test what the grammar leaves unused (proofs/Tidy.antt, kept-hold).
+use mathlib.Core.List.{map}
 use Prim.Native.Nat.{ℕ, min}
 use Rattle.record.specs.declared.Rule.{Rule}
 use Rattle.record.specs.declared.Rule.the-variants.{New, Old}

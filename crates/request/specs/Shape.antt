@@ -1,18 +1,15 @@
 -- Document 01, Lines of the panel: the shapes. A line that is none of them is code 14.
-use mathlib.Core.Bool.{Bool, cond}
-use mathlib.Core.List.{List, [], _∷_, _++_, map}
-use Prim.Native.Nat.{ℕ, _-_}
-use lib.ListN.{length, getD, replicate}
+use mathlib.Core.Bool.{cond}
+use mathlib.Core.List.{List, [], map}
+use Prim.Native.Nat.{ℕ}
+use lib.ListN.{length, getD}
 use Rattle.record.specs.declared.Rule.{Rule}
 use Rattle.record.specs.declared.Rule.the-variants.{New, Old}
-use Rattle.record.specs.declared.Ship.{Ship}
-use Rattle.record.specs.declared.Load.{Load}
 use Rattle.record.specs.declared.Column.{Column}
 use Rattle.record.specs.declared.Mode.{Mode}
 use Rattle.record.specs.declared.Mode.the-variants.{Trimmed, Voided, Partial}
 use Rattle.record.specs.declared.Cell.{Cell}
 use Rattle.record.specs.declared.Cell.the-variants.{Wing, Hatch, Void}
-use Rattle.record.specs.declared.Slot.{Slot}
 use Rattle.record.specs.declared.Part.{Part}
 use Rattle.record.specs.declared.Hold.{Hold}
 use Rattle.record.specs.Columns.{noColumn}
@@ -83,7 +80,7 @@ cell? ts =
     (cond (is r "hatch") (hatch? us)
     (cond (is r "void") (void? us) none))
 
--- a part of cells, and a part of three sizes; unused places are filled, so that equal records are equal values
+-- a part of cells, and a part of four sizes; unused places are filled, so that equal records are equal values
 abbrev pub sectionRecord : ℕ → List Cell → Part
 sectionRecord length′ cs =
     record {
@@ -163,3 +160,14 @@ form? ts =
 -- the request of a line's tokens
 unfoldable pub requestOf : List Token → Request
 requestOf ts = whole? (form? ts) (plain NoShape)
+
+-- the code of each kind: 14 where a line is none of the shapes
+abbrev pub kindCode : Kind → ℕ
+kindCode (ShipLine s) = 0
+kindCode ColumnLine = 0
+kindCode (LoadLine l) = 0
+kindCode (HoldLine n) = 0
+kindCode (DropLine n) = 0
+kindCode JudgeLine = 0
+kindCode ClearLine = 0
+kindCode NoShape = 14

@@ -13,7 +13,7 @@ use text::Next;
 use text::Number;
 ghost use mathlib.Core.Path.{_≡_};
 ghost use mathlib.Core.List.{map};
-ghost use Prim.Native.Nat.{ℕ, _≤_, _<_};
+ghost use Prim.Native.Nat.{_≤_};
 ghost use lib.ListN.{length, take, drop};
 ghost use Rattle.text.specs.Token.{tokens};
 ghost use Rattle.record.specs.Filler.{noSlot, noPart};
@@ -424,7 +424,7 @@ fn cell_at(s: &[u8], at: usize) -> CellItem
     CellItem::NoCell
 }
 
-// The cells of a part, at most eight, and its closing bracket.
+// The cells of a part, at most eight, and its closing bracket. The filler of a part has eight fillers of a cell.
 fn cells_at(s: &[u8], at: usize) -> Cells
     requires { ⌜ at ≤ length (now s) ⌝ }
     ensures { λ r. ⌜ Fills (carry (map slotOf) (items? 8 cell? (tokens (drop at (now (s .entry)))))) (now (s .entry)) 8 noSlot (r .count) (r .slots) (r .end) ⌝ }
@@ -489,7 +489,7 @@ fn section_at(s: &[u8], at: usize) -> PartItem
     PartItem { part, end }
 }
 
-// `LENGTH BREADTH VOID GRAIN)`
+// `LENGTH BREADTH VOID GRAIN)`. The filler of a part has eight fillers of a cell.
 fn slack_at(s: &[u8], at: usize) -> PartItem
     requires { ⌜ at ≤ length (now s) ⌝ }
     ensures { λ r. ⌜ Ends (carry carriedPart (slack? (tokens (drop at (now (s .entry)))))) (now (s .entry)) (r .part) (r .end) ⌝ }
@@ -546,7 +546,7 @@ fn part_at(s: &[u8], at: usize, mode: Mode) -> PartItem
 }
 
 // The parts of a hold, at most six, and its closing bracket.
-fn parts_at(s: &[u8], at: usize, mode: Mode) -> Parts
+fn part_list_at(s: &[u8], at: usize, mode: Mode) -> Parts
     requires { ⌜ at ≤ length (now s) ⌝ }
     ensures { λ r. ⌜ Fills (carry (map carriedPart) (items? 6 (part? mode) (tokens (drop at (now (s .entry)))))) (now (s .entry)) 6 noPart (r .count) (r .parts) (r .end) ⌝ }
 {
@@ -586,14 +586,14 @@ fn parts_at(s: &[u8], at: usize, mode: Mode) -> Parts
 }
 
 // `SF PART ..)`
-fn filled_at(s: &[u8], at: usize, n: u32, mode: Mode) -> Form
+fn parts_at(s: &[u8], at: usize, n: u32, mode: Mode) -> Form
     requires { ⌜ at ≤ length (now s) ⌝ }
     ensures { λ r. ⌜ Ends (carry carriedRequest (parts? n mode (tokens (drop at (now (s .entry)))))) (now (s .entry)) (r .request) (r .end) ⌝ }
 {
     let Size::Kept(factor, q) = size_at(s, at) else {
         return no_form();
     };
-    let t = parts_at(s, q, mode);
+    let t = part_list_at(s, q, mode);
     let count = t.count;
     if count == 0 {
         return no_form();
@@ -626,13 +626,13 @@ fn hold_at(s: &[u8], at: usize) -> Form
     };
     let word = text::run_of(s, a, q);
     if text::same(word, b"trimmed") {
-        return filled_at(s, q, n, Mode::Trimmed);
+        return parts_at(s, q, n, Mode::Trimmed);
     }
     if text::same(word, b"voided") {
-        return filled_at(s, q, n, Mode::Voided);
+        return parts_at(s, q, n, Mode::Voided);
     }
     if text::same(word, b"partial") {
-        return filled_at(s, q, n, Mode::Partial);
+        return parts_at(s, q, n, Mode::Partial);
     }
     no_form()
 }

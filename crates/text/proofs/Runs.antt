@@ -1,17 +1,20 @@
 -- Laws of tokens, and of the test that every number is sound.
-use mathlib.Core.Path.{_≡_, refl, sym, _∙_, ap}
+use mathlib.Core.Path.{_≡_, refl, sym, _∙_, ap, subst}
 use mathlib.Core.Bool.{Bool, true, false, cond, _&&_, _||_}
 use mathlib.Core.List.{List, [], _∷_}
 use Prim.Native.Nat.{ℕ, suc, _+_, _-_, _≤_, _<_}
+use native.Mathlib.Decide.{ℕ-discrete, decLt}
 use native.Mathlib.Omega.{arith}
 use lib.Dec.{eqb, leb}
 use lib.ListN.{length, getD, take, drop, length-drop}
-use lib.Seq.{drop-drop, length-take-le, getD-drop}
+use lib.Seq.{drop-drop, getD-drop}
 use Rattle.whole.specs.Lists.{all, within}
 use borrow.Author.Tests.{ne-eqb, eq-eqb, leb-true, leb-false}
 use Rattle.text.specs.Token.{opened, closed, run, opening, closing, inRun, startsRun, glue, tokens, same}
 use Rattle.text.specs.Line.{numberIfDigit, soundToken}
-use Rattle.text.specs.Places.{runLength, startsToken, gap}
+use Rattle.text.specs.Places.{runLength, startsToken, gap, tokenAt, nextOf}
+use Rattle.text.specs.declared.Next.{Next}
+use Rattle.text.specs.declared.Next.the-variants.{Open, Close, Run, End}
 use Rattle.whole.proofs.Lists.{drop-next, drop-end}
 
 no-run : (s : List ℕ) → startsRun s ≡ false → runLength s ≡ 0
@@ -74,22 +77,23 @@ module _ (s : List ℕ) (i : ℕ) (p : i < length s) where
   run-long : inRun (getD s i 0) ≡ true → 0 < runLength (drop i s)
   run-long e = rw (drop-next s i 0 p) (one-long (getD s i 0) (drop (i + 1) s) e)
 
--- a step over the run r, which starts at i
-pub record Passes (s : List ℕ) (i : ℕ) (r : List ℕ) : Type 0 where
-  pub long : 0 < length r
-  pub short : i + length r ≤ length s
-  pub good : numberIfDigit r ≡ true → sound (drop i s) ≡ sound (drop (i + length r) s)
+-- a step over the run r, which stands from i to q
+pub record Passes (s : List ℕ) (i q : ℕ) (r : List ℕ) : Type 0 where
+  pub long : i < q
+  pub good : numberIfDigit r ≡ true → sound (drop i s) ≡ sound (drop q s)
   pub bad : numberIfDigit r ≡ false → sound (drop i s) ≡ false
 
-pub passes : (s : List ℕ) (i : ℕ) (r : List ℕ) → i < length s → inRun (getD s i 0) ≡ true → r ≡ take (runLength (drop i s)) (drop i s) → Passes s i r
-passes s i r p q e =
-    let w = run-within (drop i s) in
-    let n : length r ≡ runLength (drop i s) = ap length e ∙ length-take-le (runLength (drop i s)) (drop i s) w in
+pub passes :
+    (s : List ℕ) (i q : ℕ) (r : List ℕ) → i < length s → inRun (getD s i 0) ≡ true → q ≡ i + runLength (drop i s) →
+    r ≡ take (q - i) (drop i s) → Passes s i q r
+passes s i q r p b e f =
+    let n : q - i ≡ runLength (drop i s) = omega arith in
+    let g : r ≡ take (runLength (drop i s)) (drop i s) = f ∙ rw n in
+    let d : drop (runLength (drop i s)) (drop i s) ≡ drop q s = drop-drop (runLength (drop i s)) i s ∙ rw (← e) in
     record {
-      long = omega (arith, run-long s i p q);
-      short = omega (arith, length-drop i s);
-      good = λ g. sound-run s i p q ∙ rw (← e, g, n) (ap sound (drop-drop (runLength (drop i s)) i s));
-      bad = λ g. sound-run s i p q ∙ rw (← e, g);
+      long = omega (arith, run-long s i p b);
+      good = λ x. sound-run s i p b ∙ rw (← g, x, d);
+      bad = λ x. sound-run s i p b ∙ rw (← g, x);
     }
 
 -- ---- two runs, compared byte by byte
@@ -130,7 +134,7 @@ module _ (s : List ℕ) (i : ℕ) where
   unfolding gap
   gap-out p = rw (drop-end s i 0 p)
 
-  pub tokens-out : length s ≤ i → tokens (drop i s) ≡ []
+  tokens-out : length s ≤ i → tokens (drop i s) ≡ []
   unfolding tokens
   tokens-out p = rw (drop-end s i 0 p)
 
@@ -143,11 +147,11 @@ module _ (s : List ℕ) (i : ℕ) where
     unfolding gap
     gap-off e = rw (drop-next s i 0 p, e)
 
-    pub tokens-open : getD s i 0 ≡ 40 → tokens (drop i s) ≡ opened ∷ tokens (drop (i + 1) s)
+    tokens-open : getD s i 0 ≡ 40 → tokens (drop i s) ≡ opened ∷ tokens (drop (i + 1) s)
     unfolding tokens within
     tokens-open e = rw (drop-next s i 0 p, e)
 
-    pub tokens-close : getD s i 0 ≡ 41 → tokens (drop i s) ≡ closed ∷ tokens (drop (i + 1) s)
+    tokens-close : getD s i 0 ≡ 41 → tokens (drop i s) ≡ closed ∷ tokens (drop (i + 1) s)
     unfolding tokens within
     tokens-close e = rw (drop-next s i 0 p, e)
 
@@ -186,9 +190,25 @@ in-run-else b e p q = by (inRun b) (eqb b 40) (eqb b 41) (ne-eqb b 40 p) (ne-eqb
     by false true z f g h = sym f
     by false false z f g h = sym g ∙ h
 
+-- what an answer says of the tokens from the place p on: the next one, and those of what is left of the line behind it
+abbrev pub NextIs : List ℕ → ℕ → Next → Type 0
+NextIs s p (Open q) = (tokens (drop p s) ≡ opened ∷ tokens (drop q s)) × (q ≤ length s)
+NextIs s p (Close q) = (tokens (drop p s) ≡ closed ∷ tokens (drop q s)) × (q ≤ length s)
+NextIs s p (Run a q) = (tokens (drop p s) ≡ run (take (q - a) (drop a s)) ∷ tokens (drop q s)) × (a ≤ q) × (q ≤ length s)
+NextIs s p End = tokens (drop p s) ≡ []
+
+-- the next token stands at the place p, behind the gap
 module _ (s : List ℕ) (at p : ℕ) (there : p ≡ at + gap (drop at s)) where
-  pub to-token : tokens (drop at s) ≡ tokens (drop p s)
+  to-token : tokens (drop at s) ≡ tokens (drop p s)
   to-token = over-gap (drop at s) ∙ ap tokens (drop-drop (gap (drop at s)) at s ∙ rw (← there))
+
+  next-there : nextOf s at ≡ tokenAt (drop p s) p
+  unfolding nextOf
+  next-there = rw (← there)
+
+  pub next-end : length s ≤ p → nextOf s at ≡ End
+  unfolding tokenAt
+  next-end h = next-there ∙ rw (drop-end s p 0 h)
 
   module _ (h : p < length s) where
     starts-there : startsToken (getD s p 0) ≡ true
@@ -196,9 +216,46 @@ module _ (s : List ℕ) (at p : ℕ) (there : p ≡ at + gap (drop at s)) where
         let n = length-drop at s in
         rw (there, ← getD-drop at s (gap (drop at s)) 0) (gap-stop (drop at s) (omega arith))
 
-    pub to-run : (q : ℕ) → (getD s p 0 ≡ 40 → ⊥) → (getD s p 0 ≡ 41 → ⊥) → q ≡ p + runLength (drop p s) → tokens (drop at s) ≡ run (take (q - p) (drop p s)) ∷ tokens (drop q s)
-    to-run q x y e =
-        let f : startsRun (drop p s) ≡ true = rw (drop-next s p 0 h) (in-run-else (getD s p 0) starts-there x y) in
-        let n : q - p ≡ runLength (drop p s) = omega arith in
-        let d : drop (runLength (drop p s)) (drop p s) ≡ drop q s = drop-drop (runLength (drop p s)) p s ∙ rw (← e) in
-        to-token ∙ run-token (drop p s) f ∙ rw (n, d)
+    pub next-open : getD s p 0 ≡ 40 → nextOf s at ≡ Open (p + 1)
+    unfolding tokenAt
+    next-open e = next-there ∙ rw (drop-next s p 0 h, e)
+
+    pub next-close : getD s p 0 ≡ 41 → nextOf s at ≡ Close (p + 1)
+    unfolding tokenAt
+    next-close e = next-there ∙ rw (drop-next s p 0 h, e)
+
+    module _ (x : getD s p 0 ≡ 40 → ⊥) (y : getD s p 0 ≡ 41 → ⊥) where
+      pub next-run : nextOf s at ≡ Run p (p + runLength (drop p s))
+      unfolding tokenAt
+      next-run = next-there ∙ rw (drop-next s p 0 h, ne-eqb _ 40 x, ne-eqb _ 41 y)
+
+      run-there : startsRun (drop p s) ≡ true
+      run-there = rw (drop-next s p 0 h) (in-run-else (getD s p 0) starts-there x y)
+
+      run-is : NextIs s at (Run p (p + runLength (drop p s)))
+      run-is =
+          let n : p + runLength (drop p s) - p ≡ runLength (drop p s) = omega arith in
+          let d = drop-drop (runLength (drop p s)) p s in
+          (to-token ∙ run-token (drop p s) run-there ∙ rw (n, d), omega arith, omega (arith, run-within (drop p s), length-drop p s))
+
+    within-is : NextIs s at (nextOf s at)
+    within-is = by (ℕ-discrete (getD s p 0) 40) (ℕ-discrete (getD s p 0) 41)
+      where
+        by : Dec (getD s p 0 ≡ 40) → Dec (getD s p 0 ≡ 41) → NextIs s at (nextOf s at)
+        by (yes e) f = rw (next-open e) (to-token ∙ tokens-open s p h e, omega arith)
+        by (no e) (yes f) = rw (next-close f) (to-token ∙ tokens-close s p h f, omega arith)
+        by (no e) (no f) = rw (next-run e f) (run-is e f)
+
+  next-is-there : NextIs s at (nextOf s at)
+  next-is-there = by (decLt p (length s))
+    where
+      by : Dec (p < length s) → NextIs s at (nextOf s at)
+      by (yes h) = within-is h
+      by (no h) = let n : length s ≤ p = omega arith in rw (next-end n) (to-token ∙ tokens-out s p n)
+
+pub next-is : (s : List ℕ) (at : ℕ) → NextIs s at (nextOf s at)
+next-is s at = next-is-there s at (at + gap (drop at s)) refl
+
+-- the same of an answer
+pub next-by : (s : List ℕ) (at : ℕ) {r x : Next} → r ≡ nextOf s at → r ≡ x → NextIs s at x
+next-by s at e f = subst (NextIs s at) (sym e ∙ f) (next-is s at)

@@ -8,7 +8,6 @@ use lib.Dec.{eqb, ltb}
 use lib.ListN.{length, getD, drop, length-drop}
 use borrow.Author.Tests.{ne-eqb, eq-eqb, eqb-true, eqb-false, lt-ltb, le-ltb}
 use lib.Seq.{drop-drop}
-use Rattle.text.specs.Token.{space, opening, closing}
 use Rattle.text.specs.Line.{before, inside, behind, wrong, outOf, walked, isBehind, oneForm}
 use Rattle.text.specs.Places.{spaces, closeAt}
 use Rattle.text.specs.declared.Closed.{Closed}

@@ -1,13 +1,20 @@
 -- Document 01, Codes, Every line: 10 to 13, each test made over the entire line before the next.
-use mathlib.Core.Bool.{Bool, true, false, cond, not, _&&_, _||_}
+use mathlib.Core.Bool.{Bool, true, false, cond, not, _||_}
 use mathlib.Core.List.{List, [], _∷_}
 use Prim.Native.Nat.{ℕ, zero, suc, _-_}
-use lib.Dec.{eqb, leb, ltb}
+use lib.Dec.{eqb, ltb}
 use lib.ListN.{length}
 use Rattle.whole.specs.Lists.{all}
 use Rattle.text.specs.declared.Reading.{Reading}
 use Rattle.text.specs.declared.Reading.the-variants.{Sound, TooLong, BadByte, NotOneForm, BadNumber}
+use Rattle.text.specs.declared.Test.{Test}
+use Rattle.text.specs.declared.Test.the-variants.{Passed, Failed}
 use Rattle.text.specs.Token.{space, opening, closing, isDigit, inRun, Token, opened, closed, run, tokens, isNumber}
+
+-- how a test of a whole line ends
+abbrev pub tested : Bool → Test
+tested true = Passed
+tested false = Failed
 
 -- 11: brackets, space, a to z, 0 to 9
 abbrev pub allowed : ℕ → Bool

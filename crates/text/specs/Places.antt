@@ -1,10 +1,9 @@
 -- Places of a line, as the reader carries them from step to step. The laws lead from them to the definitions of Token and Line.
-use mathlib.Core.Path.{_≡_}
-use mathlib.Core.Bool.{Bool, true, false, cond, _&&_, _||_}
+use mathlib.Core.Bool.{Bool, cond, _&&_, _||_}
 use mathlib.Core.List.{List, [], _∷_}
-use Prim.Native.Nat.{ℕ, suc, _+_, _-_, _≤_}
+use Prim.Native.Nat.{ℕ, suc, _+_, _-_}
 use lib.Dec.{eqb, leb}
-use lib.ListN.{length, take, drop}
+use lib.ListN.{drop}
 use Rattle.text.specs.declared.Closed.{Closed}
 use Rattle.text.specs.declared.Closed.the-variants.{At, Nowhere}
 use Rattle.whole.specs.Lists.{all}
@@ -12,15 +11,15 @@ use Rattle.text.specs.declared.Number.{Number}
 use Rattle.text.specs.declared.Number.the-variants.{Is, Bad}
 use Rattle.text.specs.declared.Next.{Next}
 use Rattle.text.specs.declared.Next.the-variants.{Open, Close, Run, End}
-use Rattle.text.specs.Token.{space, opening, closing, isDigit, inRun, valueFrom, opened, closed, run, tokens}
+use Rattle.text.specs.Token.{space, opening, closing, isDigit, inRun, valueFrom}
 
 -- how many spaces stand in front
 unfoldable pub spaces : List ℕ → ℕ
 spaces [] = 0
 spaces (b ∷ s) = cond (eqb b space) (suc (spaces s)) 0
 
--- the place behind the bracket that closes a form, in what is left of a line from the place p on: `left` more brackets may be
--- opened inside the form, and `deep` are open in it
+-- the place behind the bracket that closes a form, in what is left of a line from the place p on: `deep` forms are open inside
+-- it, and forms may be nested at most `left` deeper
 unfoldable pub closeAt : List ℕ → (p left deep : ℕ) → Closed
 closeAt [] p left deep = Nowhere
 closeAt (b ∷ s) p left deep =
@@ -46,9 +45,12 @@ unfoldable pub gap : List ℕ → ℕ
 gap [] = 0
 gap (b ∷ s) = cond (startsToken b) 0 (suc (gap s))
 
--- the next token from the place p of a line on; what is left of the line starts behind it
-abbrev pub NextIs : List ℕ → ℕ → Next → Type 0
-NextIs s p (Open q) = (tokens (drop p s) ≡ opened ∷ tokens (drop q s)) × (q ≤ length s)
-NextIs s p (Close q) = (tokens (drop p s) ≡ closed ∷ tokens (drop q s)) × (q ≤ length s)
-NextIs s p (Run a q) = (tokens (drop p s) ≡ run (take (q - a) (drop a s)) ∷ tokens (drop q s)) × (a ≤ q) × (q ≤ length s)
-NextIs s p End = tokens (drop p s) ≡ []
+-- the token in front of what is left of a line from the place p on
+unfoldable pub tokenAt : List ℕ → (p : ℕ) → Next
+tokenAt [] p = End
+tokenAt (b ∷ s) p =
+    cond (eqb b opening) (Open (p + 1)) (cond (eqb b closing) (Close (p + 1)) (Run p (p + runLength (b ∷ s))))
+
+-- the next token of the line s from the place p on: it stands behind the gap
+unfoldable pub nextOf : List ℕ → ℕ → Next
+nextOf s p = tokenAt (drop (p + gap (drop p s)) s) (p + gap (drop p s))

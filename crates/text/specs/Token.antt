@@ -3,7 +3,6 @@ use mathlib.Core.Bool.{Bool, true, false, cond, not, _&&_, _||_}
 use mathlib.Core.List.{List, [], _∷_}
 use Prim.Native.Nat.{ℕ, _+_, _-_, _*_}
 use lib.Dec.{eqb, leb}
-use lib.ListN.{length}
 use Rattle.whole.specs.Lists.{within, all}
 use Rattle.text.specs.declared.Number.{Number}
 use Rattle.text.specs.declared.Number.the-variants.{Is, Bad}
@@ -38,7 +37,8 @@ abbrev pub startsRun : List ℕ → Bool
 startsRun [] = false
 startsRun (b ∷ s) = inRun b
 
--- a byte of a run, in front of the tokens behind it: one more byte of the run that follows at once, or a run by itself
+-- a byte of a run, in front of the tokens behind it: one more byte of the run that follows at once, or a run by itself.
+-- Where a run follows at once, the first token behind is that run: the other three cases never arise.
 abbrev pub glue : Bool → ℕ → List Token → List Token
 glue false b ts = run (b ∷ []) ∷ ts
 glue true b [] = run (b ∷ []) ∷ []

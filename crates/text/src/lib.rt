@@ -1,13 +1,12 @@
 // A line's bytes, brackets, runs and numbers: codes 10 to 13.
 ghost use mathlib.Core.Path.{_≡_};
-ghost use mathlib.Core.Bool.{_&&_, _||_};
-ghost use Prim.Native.Nat.{ℕ, _+_, _-_, _≤_, _<_};
-ghost use lib.ListN.{length, getD, take, drop};
+ghost use Prim.Native.Nat.{_+_, _-_, _≤_};
+ghost use lib.ListN.{length, take, drop};
 ghost use Rattle.whole.specs.Lists.{all, within};
 ghost use Rattle.text.specs.Token.{isDigit, inRun, numberOf, tokens};
 ghost use Rattle.text.specs.Token.{same as Token·same};
-ghost use Rattle.text.specs.Line.{allowed, oneForm, numberIfDigit, soundToken, readingOf};
-ghost use Rattle.text.specs.Places.{spaces, closeAt, runLength, digitsFrom, startsToken, gap, NextIs};
+ghost use Rattle.text.specs.Line.{allowed, tested, oneForm, numberIfDigit, soundToken, readingOf};
+ghost use Rattle.text.specs.Places.{spaces, closeAt, runLength, digitsFrom, startsToken, gap, nextOf};
 
 // What the tests of a whole line find, in their order.
 pub enum Reading {
@@ -18,6 +17,12 @@ pub enum Reading {
     BadNumber,
 }
 
+// How a test of a whole line ends.
+enum Test {
+    Passed,
+    Failed,
+}
+
 // What a run of digits and letters says.
 pub enum Number {
     Is(u32),
@@ -25,7 +30,7 @@ pub enum Number {
 }
 
 // The place behind a closing bracket.
-pub enum Closed {
+enum Closed {
     At(usize),
     Nowhere,
 }
@@ -38,23 +43,11 @@ pub enum Next {
     End,
 }
 
-fn both(a: bool, b: bool) -> bool
-    ensures { λ r. ⌜ r ≡ (a && b) ⌝ }
-{
-    if a { b } else { false }
-}
-
-fn either(a: bool, b: bool) -> bool
-    ensures { λ r. ⌜ r ≡ (a || b) ⌝ }
-{
-    if a { true } else { b }
-}
-
 // Whether lo <= b <= hi.
 fn is_within(lo: u8, hi: u8, b: u8) -> bool
     ensures { λ r. ⌜ r ≡ within lo hi b ⌝ }
 {
-    both(lo <= b, b <= hi)
+    whole::both(lo <= b, b <= hi)
 }
 
 fn is_digit(b: u8) -> bool
@@ -64,35 +57,38 @@ fn is_digit(b: u8) -> bool
 }
 
 // Whether a byte is a letter or a digit.
-pub fn in_run(b: u8) -> bool
+fn in_run(b: u8) -> bool
     ensures { λ r. ⌜ r ≡ inRun b ⌝ }
 {
-    either(is_within(97, 122, b), is_digit(b))
+    whole::either(is_within(97, 122, b), is_digit(b))
 }
 
 // Whether a byte may stand in a line.
 fn is_allowed(b: u8) -> bool
     ensures { λ r. ⌜ r ≡ allowed b ⌝ }
 {
-    either(either(either(in_run(b), b == 32), b == 40), b == 41)
+    whole::either(
+        whole::either(whole::either(in_run(b), b == 32), b == 40),
+        b == 41,
+    )
 }
 
 // 11: whether every byte may.
-fn all_allowed(s: &[u8]) -> bool
-    ensures { λ r. ⌜ r ≡ all allowed (now (s .entry)) ⌝ }
+fn all_allowed(s: &[u8]) -> Test
+    ensures { λ r. ⌜ r ≡ tested (all allowed (now (s .entry))) ⌝ }
 {
     let mut i = 0;
     while i < s.len() {
         if !is_allowed(s[i]) {
-            return false;
+            return Test::Failed;
         }
         i += 1;
     }
-    true
+    Test::Passed
 }
 
 // The place behind the spaces that stand at `at`.
-pub fn skip(s: &[u8], at: usize) -> usize
+fn skip(s: &[u8], at: usize) -> usize
     requires { ⌜ at ≤ length (now s) ⌝ }
     ensures { λ r. ⌜ (r ≡ at + spaces (drop at (now (s .entry)))) × (r ≤ length (now (s .entry))) ⌝ }
 {
@@ -106,7 +102,7 @@ pub fn skip(s: &[u8], at: usize) -> usize
     i
 }
 
-// The place behind the form whose opening bracket stands just before `at`, where `left` more may be opened inside it.
+// The place behind the form whose opening bracket stands just before `at`, with forms inside it nested at most `left` deeper.
 fn close_at(s: &[u8], at: usize, left: usize) -> Closed
     requires { ⌜ at ≤ length (now s) ⌝ }
     ensures { λ r. ⌜ r ≡ closeAt (drop at (now (s .entry))) at left 0 ⌝ }
@@ -133,20 +129,23 @@ fn close_at(s: &[u8], at: usize, left: usize) -> Closed
 }
 
 // 12: whether a line is one closed form, with only spaces outside it and at most four brackets open.
-fn one_form(s: &[u8]) -> bool
-    ensures { λ r. ⌜ r ≡ oneForm 4 (now (s .entry)) ⌝ }
+fn one_form(s: &[u8]) -> Test
+    ensures { λ r. ⌜ r ≡ tested (oneForm 4 (now (s .entry))) ⌝ }
 {
     let at = skip(s, 0);
     if s.len() <= at {
-        return false;
+        return Test::Failed;
     }
     if s[at] != 40 {
-        return false;
+        return Test::Failed;
     }
     let Closed::At(j) = close_at(s, at + 1, 3) else {
-        return false;
+        return Test::Failed;
     };
-    skip(s, j) == s.len()
+    if skip(s, j) != s.len() {
+        return Test::Failed;
+    }
+    Test::Passed
 }
 
 // The number that digits say, a zero in front or not.
@@ -217,32 +216,31 @@ fn run_end(s: &[u8], at: usize) -> usize
     i
 }
 
-// The run that starts at `at`: the very bytes of the line.
-pub fn run_at<'a>(s: &'a [u8], at: usize) -> &'a [u8]
-    requires { ⌜ at ≤ length (now s) ⌝ }
-    ensures { λ r. ⌜ now r ≡ take (runLength (drop at (now (s .entry)))) (drop at (now (s .entry))) ⌝ }
+// The run from a place to a place: the very bytes of the line.
+pub fn run_of<'a>(s: &'a [u8], from: usize, to: usize) -> &'a [u8]
+    requires { ⌜ (from ≤ to) × (to ≤ length (now s)) ⌝ }
+    ensures { λ r. ⌜ now r ≡ take (to - from) (drop from (now (s .entry))) ⌝ }
 {
-    let e = run_end(s, at);
-    &s[at..e]
+    &s[from..to]
 }
 
 // 13: whether every run of a line that starts with a digit is a number.
-fn all_sound(s: &[u8]) -> bool
-    ensures { λ r. ⌜ r ≡ all soundToken (tokens (now (s .entry))) ⌝ }
+fn all_sound(s: &[u8]) -> Test
+    ensures { λ r. ⌜ r ≡ tested (all soundToken (tokens (now (s .entry)))) ⌝ }
 {
     let mut i = 0;
     while i < s.len() {
         if in_run(s[i]) {
-            let run = run_at(s, i);
-            if !is_sound(run) {
-                return false;
+            let e = run_end(s, i);
+            if !is_sound(run_of(s, i, e)) {
+                return Test::Failed;
             }
-            i += run.len();
+            i = e;
         } else {
             i += 1;
         }
     }
-    true
+    Test::Passed
 }
 
 // The first test that a line fails, each made over the entire line before the next.
@@ -252,15 +250,15 @@ pub fn reading_of(line: &[u8]) -> Reading
     if 2000 < line.len() {
         return Reading::TooLong;
     }
-    if !all_allowed(line) {
+    let Test::Passed = all_allowed(line) else {
         return Reading::BadByte;
-    }
-    if !one_form(line) {
+    };
+    let Test::Passed = one_form(line) else {
         return Reading::NotOneForm;
-    }
-    if !all_sound(line) {
+    };
+    let Test::Passed = all_sound(line) else {
         return Reading::BadNumber;
-    }
+    };
     Reading::Sound
 }
 
@@ -284,7 +282,7 @@ pub fn same(a: &[u8], b: &[u8]) -> bool
 fn starts_token(b: u8) -> bool
     ensures { λ r. ⌜ r ≡ startsToken b ⌝ }
 {
-    either(either(in_run(b), b == 40), b == 41)
+    whole::either(whole::either(in_run(b), b == 40), b == 41)
 }
 
 // The place of the next token, or the end of the line.
@@ -305,7 +303,7 @@ fn token_at(s: &[u8], at: usize) -> usize
 // The next token from `at` on.
 pub fn next_at(s: &[u8], at: usize) -> Next
     requires { ⌜ at ≤ length (now s) ⌝ }
-    ensures { λ r. ⌜ NextIs (now (s .entry)) at r ⌝ }
+    ensures { λ r. ⌜ r ≡ nextOf (now (s .entry)) at ⌝ }
 {
     let p = token_at(s, at);
     if s.len() <= p {
@@ -320,12 +318,4 @@ pub fn next_at(s: &[u8], at: usize) -> Next
     }
     let q = run_end(s, p);
     Next::Run(p, q)
-}
-
-// The run from a place to a place: the very bytes of the line.
-pub fn run_of<'a>(s: &'a [u8], from: usize, to: usize) -> &'a [u8]
-    requires { ⌜ (from ≤ to) × (to ≤ length (now s)) ⌝ }
-    ensures { λ r. ⌜ now r ≡ take (to - from) (drop from (now (s .entry))) ⌝ }
-{
-    &s[from..to]
 }

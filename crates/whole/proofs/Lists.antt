@@ -17,6 +17,11 @@ pub and-true : (a b : Bool) → (a && b) ≡ true → (a ≡ true) × (b ≡ tru
 and-true true b e = (refl, e)
 and-true false b e = let z : _≡_ {A = ℕ} 0 1 = cc in absurd (omega arith)
 
+-- no test passes beside one that fails
+pub and-false : (a : Bool) → (a && false) ≡ false
+and-false true = refl
+and-false false = refl
+
 -- a number is within its limits exactly where the test passes
 pub record Within (lo hi v : ℕ) : Type 0 where
   pub low : lo ≤ v

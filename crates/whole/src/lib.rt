@@ -1,13 +1,28 @@
 // Whole-number arithmetic: division rounded up, roots, a product over a divisor, points on a straight line, and the
-// few functions that see the machine's signed numbers.
+// few functions that see the machine's signed numbers. Tests that are joined without a branch.
 ghost use mathlib.Core.Path.{_≡_};
-ghost use Prim.Native.Nat.{ℕ, _+_, _*_, _/_, _%_, _-_, _<_, _≤_, _^_, min};
+ghost use mathlib.Core.Bool.{_&&_, _||_};
+ghost use Prim.Native.Nat.{_+_, _*_, _/_, _%_, _-_, _<_, _≤_, _^_, min};
 ghost use lib.Signed.{ltZ};
-ghost use lib.IntN.{ℤ, pos, subℕ};
+ghost use lib.IntN.{pos, subℕ};
 ghost use Rattle.whole.specs.Divide.{ceilDiv};
 ghost use Rattle.whole.specs.Root.{root};
 ghost use Rattle.whole.specs.Sign.{plus, minus};
 ghost use Rattle.whole.specs.Line.{onLine, roundDown, lineAt};
+
+// Both tests, each made: a chain of these has no branch.
+pub fn both(a: bool, b: bool) -> bool
+    ensures { λ r. ⌜ r ≡ (a && b) ⌝ }
+{
+    if a { b } else { false }
+}
+
+// One of two tests, each made.
+pub fn either(a: bool, b: bool) -> bool
+    ensures { λ r. ⌜ r ≡ (a || b) ⌝ }
+{
+    if a { true } else { b }
+}
 
 // The smaller of two.
 pub fn smaller(a: u64, b: u64) -> u64

@@ -1,6 +1,5 @@
-use Rattle.request.proofs.Readings.{ends-next}
+use Rattle.request.proofs.Walks.{ends-next}
 use mathlib.Core.Path.{sym}
-use Prim.Native.Nat.{_-_}
 use lib.ListN.{drop}
 use Rattle.text.specs.Token.{tokens}
 use Rattle.request.specs.Grammar.{close?}

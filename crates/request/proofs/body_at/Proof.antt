@@ -1,4 +1,3 @@
-use Prim.Native.Nat.{_-_}
 use Rattle.request.specs.Shape.{body?}
 use borrow.Author.Needs.{needs}
 use Rattle.request.proofs.body_at.Statement.{statement}

@@ -1,7 +1,4 @@
-use mathlib.Core.Path.{sym, _∙_, ap}
-use mathlib.Core.List.{List}
-use Prim.Native.Nat.{ℕ, _-_}
-use Rattle.whole.specs.Bytes.{bytes}
+use mathlib.Core.Path.{sym, _∙_}
 use Rattle.text.specs.Token.{same}
 use Rattle.request.specs.Shape.{cell?}
 use borrow.Author.Needs.{needs}
@@ -41,8 +38,8 @@ returns-2 : tie.Need-returns-2
 unfolding cell?
 returns-2 c =
     let n = rw (c .before .before .before .before .before .before .a .given .1) at (c .before .before .before .before .before .before .before .before .head-at .ensures) in
-    let e1 = ap (λ (r : List ℕ). same r (bytes "wing")) (sym (c .before .before .before .before .run-of .ensures)) ∙ sym (c .before .before .same .ensures) ∙ c .before .if1 .taken in
-    rw (n .0 .0, e1) (c .wing-at .ensures)
+    let e1 = sym (c .before .before .same .ensures) ∙ c .before .if1 .taken in
+    rw (n .0 .0, ← c .before .before .before .before .run-of .ensures, e1) (c .wing-at .ensures)
 
 slice-aggregate-same-2 : tie.Need-slice-aggregate-same-2
 slice-aggregate-same-2 c = search needs
@@ -59,9 +56,9 @@ returns-3 : tie.Need-returns-3
 unfolding cell?
 returns-3 c =
     let n = rw (c .before .before .before .before .before .before .before .before .before .a .given .1) at (c .before .before .before .before .before .before .before .before .before .before .before .head-at .ensures) in
-    let e1 = ap (λ (r : List ℕ). same r (bytes "wing")) (sym (c .before .before .before .before .before .before .before .run-of .ensures)) ∙ sym (c .before .before .before .before .before .same .ensures) ∙ c .before .before .before .before .if1 .left in
-    let e2 = ap (λ (r : List ℕ). same r (bytes "hatch")) (sym (c .before .before .before .before .before .before .before .run-of .ensures)) ∙ sym (c .before .before .same2 .ensures) ∙ c .before .if2 .taken in
-    rw (n .0 .0, e1, e2) (c .hatch-at .ensures)
+    let e1 = sym (c .before .before .before .before .before .same .ensures) ∙ c .before .before .before .before .if1 .left in
+    let e2 = sym (c .before .before .same2 .ensures) ∙ c .before .if2 .taken in
+    rw (n .0 .0, ← c .before .before .before .before .before .before .before .run-of .ensures, e1, e2) (c .hatch-at .ensures)
 
 slice-aggregate-same-3 : tie.Need-slice-aggregate-same-3
 slice-aggregate-same-3 c = search needs
@@ -78,19 +75,19 @@ returns-4 : tie.Need-returns-4
 unfolding cell?
 returns-4 c =
     let n = rw (c .before .before .before .before .before .before .before .before .before .before .before .before .a .given .1) at (c .before .before .before .before .before .before .before .before .before .before .before .before .before .before .head-at .ensures) in
-    let e1 = ap (λ (r : List ℕ). same r (bytes "wing")) (sym (c .before .before .before .before .before .before .before .before .before .before .run-of .ensures)) ∙ sym (c .before .before .before .before .before .before .before .before .same .ensures) ∙ c .before .before .before .before .before .before .before .if1 .left in
-    let e2 = ap (λ (r : List ℕ). same r (bytes "hatch")) (sym (c .before .before .before .before .before .before .before .before .before .before .run-of .ensures)) ∙ sym (c .before .before .before .before .before .same2 .ensures) ∙ c .before .before .before .before .if2 .left in
-    let e3 = ap (λ (r : List ℕ). same r (bytes "void")) (sym (c .before .before .before .before .before .before .before .before .before .before .run-of .ensures)) ∙ sym (c .before .before .same3 .ensures) ∙ c .before .if3 .taken in
-    rw (n .0 .0, e1, e2, e3) (c .void-at .ensures)
+    let e1 = sym (c .before .before .before .before .before .before .before .before .same .ensures) ∙ c .before .before .before .before .before .before .before .if1 .left in
+    let e2 = sym (c .before .before .before .before .before .same2 .ensures) ∙ c .before .before .before .before .if2 .left in
+    let e3 = sym (c .before .before .same3 .ensures) ∙ c .before .if3 .taken in
+    rw (n .0 .0, ← c .before .before .before .before .before .before .before .before .before .before .run-of .ensures, e1, e2, e3) (c .void-at .ensures)
 
 returns-5 : tie.Need-returns-5
 unfolding cell?
 returns-5 c =
     let n = rw (c .before .before .before .before .before .before .before .before .before .before .before .a .given .1) at (c .before .before .before .before .before .before .before .before .before .before .before .before .before .head-at .ensures) in
-    let e1 = ap (λ (r : List ℕ). same r (bytes "wing")) (sym (c .before .before .before .before .before .before .before .before .before .run-of .ensures)) ∙ sym (c .before .before .before .before .before .before .before .same .ensures) ∙ c .before .before .before .before .before .before .if1 .left in
-    let e2 = ap (λ (r : List ℕ). same r (bytes "hatch")) (sym (c .before .before .before .before .before .before .before .before .before .run-of .ensures)) ∙ sym (c .before .before .before .before .same2 .ensures) ∙ c .before .before .before .if2 .left in
-    let e3 = ap (λ (r : List ℕ). same r (bytes "void")) (sym (c .before .before .before .before .before .before .before .before .before .run-of .ensures)) ∙ sym (c .before .same3 .ensures) ∙ c .if3 .left in
-    rw (n .0 .0, e1, e2, e3)
+    let e1 = sym (c .before .before .before .before .before .before .before .same .ensures) ∙ c .before .before .before .before .before .before .if1 .left in
+    let e2 = sym (c .before .before .before .before .same2 .ensures) ∙ c .before .before .before .if2 .left in
+    let e3 = sym (c .before .same3 .ensures) ∙ c .if3 .left in
+    rw (n .0 .0, ← c .before .before .before .before .before .before .before .before .before .run-of .ensures, e1, e2, e3)
 
 pub cell-at-spec : {M : Type 1} → statement M
 cell-at-spec =

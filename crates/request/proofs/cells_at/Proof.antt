@@ -3,7 +3,7 @@ use native.Mathlib.Omega.{arith}
 use mathlib.Core.Path.{_≡_, sym, _∙_}
 use lib.ListN.{length, take, drop}
 use Rattle.text.specs.Token.{tokens}
-use Rattle.request.proofs.Readings.{ahead, ahead-one, ahead-none, ahead-end, kept-items, items-closed, items-stop, items-next, items-end, Filling, filling-none, filling-more, filling-taken, filled}
+use Rattle.request.proofs.Walks.{ahead, ahead-one, ahead-none, ahead-end, kept-items, items-closed, items-stop, items-next, items-end, Filling, filling-none, filling-more, filling-taken, filled}
 use Rattle.record.specs.declared.Slot.{Slot}
 use Rattle.record.specs.Filler.{noSlot}
 use Rattle.request.specs.Shape.{cell?}

@@ -1,12 +1,11 @@
 use mathlib.Core.Path.{_≡_}
 use mathlib.Core.List.{map}
-use Prim.Native.Nat.{_-_}
 use native.Mathlib.Omega.{arith}
 use lib.ListN.{take, drop, length}
 use Rattle.text.specs.Token.{tokens}
 use Rattle.request.specs.Grammar.{number?, lastNumbers?, close?}
 use Rattle.request.specs.Carried.{carried, carriedRequest}
-use Rattle.request.proofs.Readings.{carries, carries-none, ends-after}
+use Rattle.request.proofs.Walks.{carries, carries-none, ends-after}
 use lib.Seq.{take-all}
 use Rattle.request.specs.Shape.{column?, columnRequest}
 use borrow.Author.Needs.{needs}

@@ -1,3 +1,4 @@
+use Rattle.text.proofs.Runs.{next-by}
 use Rattle.request.specs.Places.{isEnd}
 use borrow.Author.Needs.{needs}
 use Rattle.request.proofs.ends_at.Statement.{statement}
@@ -20,19 +21,19 @@ enum-told-4 c = search needs
 
 returns : tie.Need-returns
 unfolding isEnd
-returns c = let n = rw (c .enum-told .given .1) at (c .before .before .next-at .ensures) in rw (n .0)
+returns c = let n = next-by _ _ (c .before .before .next-at .ensures) (c .enum-told .given .1) in rw (n .0)
 
 returns-2 : tie.Need-returns-2
 unfolding isEnd
-returns-2 c = let n = rw (c .enum-told2 .given .1) at (c .before .before .next-at .ensures) in rw (n .0)
+returns-2 c = let n = next-by _ _ (c .before .before .next-at .ensures) (c .enum-told2 .given .1) in rw (n .0)
 
 returns-3 : tie.Need-returns-3
 unfolding isEnd
-returns-3 c = let n = rw (c .enum-told3 .given .1) at (c .before .before .next-at .ensures) in rw (n .0)
+returns-3 c = let n = next-by _ _ (c .before .before .next-at .ensures) (c .enum-told3 .given .1) in rw (n .0)
 
 returns-4 : tie.Need-returns-4
 unfolding isEnd
-returns-4 c = let n = rw (c .enum-told4 .given .1) at (c .before .before .next-at .ensures) in rw n
+returns-4 c = let n = next-by _ _ (c .before .before .next-at .ensures) (c .enum-told4 .given .1) in rw n
 
 pub ends-at-spec : {M : Type 1} → statement M
 ends-at-spec =

@@ -1,8 +1,5 @@
-use mathlib.Core.Path.{sym, _∙_, ap, refl}
-use mathlib.Core.List.{List}
-use Prim.Native.Nat.{ℕ, _-_}
+use mathlib.Core.Path.{sym, _∙_, refl}
 use lib.ListN.{drop}
-use Rattle.whole.specs.Bytes.{bytes}
 use Rattle.text.specs.Token.{tokens, same}
 use Rattle.request.specs.declared.Kind.the-variants.{JudgeLine, ClearLine}
 use Rattle.request.proofs.Records.{bare-kept}
@@ -49,8 +46,8 @@ returns-2 : tie.Need-returns-2
 unfolding form?
 returns-2 c =
     let n = rw (c .before .before .before .before .before .before .a .given .1) at (c .before .before .before .before .before .before .before .before .head-at .ensures) in
-    let e1 = ap (λ (r : List ℕ). same r (bytes "ship")) (sym (c .before .before .before .before .run-of .ensures)) ∙ sym (c .before .before .same .ensures) ∙ c .before .if1 .taken in
-    rw (n .0 .0, e1) (c .ship-at .ensures)
+    let e1 = sym (c .before .before .same .ensures) ∙ c .before .if1 .taken in
+    rw (n .0 .0, ← c .before .before .before .before .run-of .ensures, e1) (c .ship-at .ensures)
 
 slice-aggregate-same-2 : tie.Need-slice-aggregate-same-2
 slice-aggregate-same-2 c = search needs
@@ -67,9 +64,9 @@ returns-3 : tie.Need-returns-3
 unfolding form?
 returns-3 c =
     let n = rw (c .before .before .before .before .before .before .before .before .before .a .given .1) at (c .before .before .before .before .before .before .before .before .before .before .before .head-at .ensures) in
-    let e1 = ap (λ (r : List ℕ). same r (bytes "ship")) (sym (c .before .before .before .before .before .before .before .run-of .ensures)) ∙ sym (c .before .before .before .before .before .same .ensures) ∙ c .before .before .before .before .if1 .left in
-    let e2 = ap (λ (r : List ℕ). same r (bytes "column")) (sym (c .before .before .before .before .before .before .before .run-of .ensures)) ∙ sym (c .before .before .same2 .ensures) ∙ c .before .if2 .taken in
-    rw (n .0 .0, e1, e2) (c .column-at .ensures)
+    let e1 = sym (c .before .before .before .before .before .same .ensures) ∙ c .before .before .before .before .if1 .left in
+    let e2 = sym (c .before .before .same2 .ensures) ∙ c .before .if2 .taken in
+    rw (n .0 .0, ← c .before .before .before .before .before .before .before .run-of .ensures, e1, e2) (c .column-at .ensures)
 
 slice-aggregate-same-3 : tie.Need-slice-aggregate-same-3
 slice-aggregate-same-3 c = search needs
@@ -86,10 +83,10 @@ returns-4 : tie.Need-returns-4
 unfolding form?
 returns-4 c =
     let n = rw (c .before .before .before .before .before .before .before .before .before .before .before .before .a .given .1) at (c .before .before .before .before .before .before .before .before .before .before .before .before .before .before .head-at .ensures) in
-    let e1 = ap (λ (r : List ℕ). same r (bytes "ship")) (sym (c .before .before .before .before .before .before .before .before .before .before .run-of .ensures)) ∙ sym (c .before .before .before .before .before .before .before .before .same .ensures) ∙ c .before .before .before .before .before .before .before .if1 .left in
-    let e2 = ap (λ (r : List ℕ). same r (bytes "column")) (sym (c .before .before .before .before .before .before .before .before .before .before .run-of .ensures)) ∙ sym (c .before .before .before .before .before .same2 .ensures) ∙ c .before .before .before .before .if2 .left in
-    let e3 = ap (λ (r : List ℕ). same r (bytes "load")) (sym (c .before .before .before .before .before .before .before .before .before .before .run-of .ensures)) ∙ sym (c .before .before .same3 .ensures) ∙ c .before .if3 .taken in
-    rw (n .0 .0, e1, e2, e3) (c .load-at .ensures)
+    let e1 = sym (c .before .before .before .before .before .before .before .before .same .ensures) ∙ c .before .before .before .before .before .before .before .if1 .left in
+    let e2 = sym (c .before .before .before .before .before .same2 .ensures) ∙ c .before .before .before .before .if2 .left in
+    let e3 = sym (c .before .before .same3 .ensures) ∙ c .before .if3 .taken in
+    rw (n .0 .0, ← c .before .before .before .before .before .before .before .before .before .before .run-of .ensures, e1, e2, e3) (c .load-at .ensures)
 
 slice-aggregate-same-4 : tie.Need-slice-aggregate-same-4
 slice-aggregate-same-4 c = search needs
@@ -106,11 +103,11 @@ returns-5 : tie.Need-returns-5
 unfolding form?
 returns-5 c =
     let n = rw (c .before .before .before .before .before .before .before .before .before .before .before .before .before .before .before .a .given .1) at (c .before .before .before .before .before .before .before .before .before .before .before .before .before .before .before .before .before .head-at .ensures) in
-    let e1 = ap (λ (r : List ℕ). same r (bytes "ship")) (sym (c .before .before .before .before .before .before .before .before .before .before .before .before .before .run-of .ensures)) ∙ sym (c .before .before .before .before .before .before .before .before .before .before .before .same .ensures) ∙ c .before .before .before .before .before .before .before .before .before .before .if1 .left in
-    let e2 = ap (λ (r : List ℕ). same r (bytes "column")) (sym (c .before .before .before .before .before .before .before .before .before .before .before .before .before .run-of .ensures)) ∙ sym (c .before .before .before .before .before .before .before .before .same2 .ensures) ∙ c .before .before .before .before .before .before .before .if2 .left in
-    let e3 = ap (λ (r : List ℕ). same r (bytes "load")) (sym (c .before .before .before .before .before .before .before .before .before .before .before .before .before .run-of .ensures)) ∙ sym (c .before .before .before .before .before .same3 .ensures) ∙ c .before .before .before .before .if3 .left in
-    let e4 = ap (λ (r : List ℕ). same r (bytes "hold")) (sym (c .before .before .before .before .before .before .before .before .before .before .before .before .before .run-of .ensures)) ∙ sym (c .before .before .same4 .ensures) ∙ c .before .if4 .taken in
-    rw (n .0 .0, e1, e2, e3, e4) (c .hold-at .ensures)
+    let e1 = sym (c .before .before .before .before .before .before .before .before .before .before .before .same .ensures) ∙ c .before .before .before .before .before .before .before .before .before .before .if1 .left in
+    let e2 = sym (c .before .before .before .before .before .before .before .before .same2 .ensures) ∙ c .before .before .before .before .before .before .before .if2 .left in
+    let e3 = sym (c .before .before .before .before .before .same3 .ensures) ∙ c .before .before .before .before .if3 .left in
+    let e4 = sym (c .before .before .same4 .ensures) ∙ c .before .if4 .taken in
+    rw (n .0 .0, ← c .before .before .before .before .before .before .before .before .before .before .before .before .before .run-of .ensures, e1, e2, e3, e4) (c .hold-at .ensures)
 
 slice-aggregate-same-5 : tie.Need-slice-aggregate-same-5
 slice-aggregate-same-5 c = search needs
@@ -127,12 +124,12 @@ returns-6 : tie.Need-returns-6
 unfolding form?
 returns-6 c =
     let n = rw (c .before .before .before .before .before .before .before .before .before .before .before .before .before .before .before .before .before .before .a .given .1) at (c .before .before .before .before .before .before .before .before .before .before .before .before .before .before .before .before .before .before .before .before .head-at .ensures) in
-    let e1 = ap (λ (r : List ℕ). same r (bytes "ship")) (sym (c .before .before .before .before .before .before .before .before .before .before .before .before .before .before .before .before .run-of .ensures)) ∙ sym (c .before .before .before .before .before .before .before .before .before .before .before .before .before .before .same .ensures) ∙ c .before .before .before .before .before .before .before .before .before .before .before .before .before .if1 .left in
-    let e2 = ap (λ (r : List ℕ). same r (bytes "column")) (sym (c .before .before .before .before .before .before .before .before .before .before .before .before .before .before .before .before .run-of .ensures)) ∙ sym (c .before .before .before .before .before .before .before .before .before .before .before .same2 .ensures) ∙ c .before .before .before .before .before .before .before .before .before .before .if2 .left in
-    let e3 = ap (λ (r : List ℕ). same r (bytes "load")) (sym (c .before .before .before .before .before .before .before .before .before .before .before .before .before .before .before .before .run-of .ensures)) ∙ sym (c .before .before .before .before .before .before .before .before .same3 .ensures) ∙ c .before .before .before .before .before .before .before .if3 .left in
-    let e4 = ap (λ (r : List ℕ). same r (bytes "hold")) (sym (c .before .before .before .before .before .before .before .before .before .before .before .before .before .before .before .before .run-of .ensures)) ∙ sym (c .before .before .before .before .before .same4 .ensures) ∙ c .before .before .before .before .if4 .left in
-    let e5 = ap (λ (r : List ℕ). same r (bytes "drop")) (sym (c .before .before .before .before .before .before .before .before .before .before .before .before .before .before .before .before .run-of .ensures)) ∙ sym (c .before .before .same5 .ensures) ∙ c .before .if5 .taken in
-    rw (n .0 .0, e1, e2, e3, e4, e5) (c .drop-at .ensures)
+    let e1 = sym (c .before .before .before .before .before .before .before .before .before .before .before .before .before .before .same .ensures) ∙ c .before .before .before .before .before .before .before .before .before .before .before .before .before .if1 .left in
+    let e2 = sym (c .before .before .before .before .before .before .before .before .before .before .before .same2 .ensures) ∙ c .before .before .before .before .before .before .before .before .before .before .if2 .left in
+    let e3 = sym (c .before .before .before .before .before .before .before .before .same3 .ensures) ∙ c .before .before .before .before .before .before .before .if3 .left in
+    let e4 = sym (c .before .before .before .before .before .same4 .ensures) ∙ c .before .before .before .before .if4 .left in
+    let e5 = sym (c .before .before .same5 .ensures) ∙ c .before .if5 .taken in
+    rw (n .0 .0, ← c .before .before .before .before .before .before .before .before .before .before .before .before .before .before .before .before .run-of .ensures, e1, e2, e3, e4, e5) (c .drop-at .ensures)
 
 slice-aggregate-same-6 : tie.Need-slice-aggregate-same-6
 slice-aggregate-same-6 c = search needs
@@ -149,13 +146,13 @@ returns-7 : tie.Need-returns-7
 unfolding form?
 returns-7 c =
     let n = rw (c .before .before .before .before .before .before .before .before .before .before .before .before .before .before .before .before .before .before .before .before .before .a .given .1) at (c .before .before .before .before .before .before .before .before .before .before .before .before .before .before .before .before .before .before .before .before .before .before .before .head-at .ensures) in
-    let e1 = ap (λ (r : List ℕ). same r (bytes "ship")) (sym (c .before .before .before .before .before .before .before .before .before .before .before .before .before .before .before .before .before .before .before .run-of .ensures)) ∙ sym (c .before .before .before .before .before .before .before .before .before .before .before .before .before .before .before .before .before .same .ensures) ∙ c .before .before .before .before .before .before .before .before .before .before .before .before .before .before .before .before .if1 .left in
-    let e2 = ap (λ (r : List ℕ). same r (bytes "column")) (sym (c .before .before .before .before .before .before .before .before .before .before .before .before .before .before .before .before .before .before .before .run-of .ensures)) ∙ sym (c .before .before .before .before .before .before .before .before .before .before .before .before .before .before .same2 .ensures) ∙ c .before .before .before .before .before .before .before .before .before .before .before .before .before .if2 .left in
-    let e3 = ap (λ (r : List ℕ). same r (bytes "load")) (sym (c .before .before .before .before .before .before .before .before .before .before .before .before .before .before .before .before .before .before .before .run-of .ensures)) ∙ sym (c .before .before .before .before .before .before .before .before .before .before .before .same3 .ensures) ∙ c .before .before .before .before .before .before .before .before .before .before .if3 .left in
-    let e4 = ap (λ (r : List ℕ). same r (bytes "hold")) (sym (c .before .before .before .before .before .before .before .before .before .before .before .before .before .before .before .before .before .before .before .run-of .ensures)) ∙ sym (c .before .before .before .before .before .before .before .before .same4 .ensures) ∙ c .before .before .before .before .before .before .before .if4 .left in
-    let e5 = ap (λ (r : List ℕ). same r (bytes "drop")) (sym (c .before .before .before .before .before .before .before .before .before .before .before .before .before .before .before .before .before .before .before .run-of .ensures)) ∙ sym (c .before .before .before .before .before .same5 .ensures) ∙ c .before .before .before .before .if5 .left in
-    let e6 = ap (λ (r : List ℕ). same r (bytes "judge")) (sym (c .before .before .before .before .before .before .before .before .before .before .before .before .before .before .before .before .before .before .before .run-of .ensures)) ∙ sym (c .before .before .same6 .ensures) ∙ c .before .if6 .taken in
-    rw (n .0 .0, e1, e2, e3, e4, e5, e6, bare-kept JudgeLine (tokens (drop (c .before .before .before .before .before .before .before .before .before .before .before .before .before .before .before .before .before .before .before .before .before .a .given .0 .1 .0) (c .before .before .before .before .before .before .before .before .before .before .before .before .before .before .before .before .before .before .before .before .before .before .before .before .before .args .s .now))) refl) (c .bare-at .ensures)
+    let e1 = sym (c .before .before .before .before .before .before .before .before .before .before .before .before .before .before .before .before .before .same .ensures) ∙ c .before .before .before .before .before .before .before .before .before .before .before .before .before .before .before .before .if1 .left in
+    let e2 = sym (c .before .before .before .before .before .before .before .before .before .before .before .before .before .before .same2 .ensures) ∙ c .before .before .before .before .before .before .before .before .before .before .before .before .before .if2 .left in
+    let e3 = sym (c .before .before .before .before .before .before .before .before .before .before .before .same3 .ensures) ∙ c .before .before .before .before .before .before .before .before .before .before .if3 .left in
+    let e4 = sym (c .before .before .before .before .before .before .before .before .same4 .ensures) ∙ c .before .before .before .before .before .before .before .if4 .left in
+    let e5 = sym (c .before .before .before .before .before .same5 .ensures) ∙ c .before .before .before .before .if5 .left in
+    let e6 = sym (c .before .before .same6 .ensures) ∙ c .before .if6 .taken in
+    rw (n .0 .0, ← c .before .before .before .before .before .before .before .before .before .before .before .before .before .before .before .before .before .before .before .run-of .ensures, e1, e2, e3, e4, e5, e6, bare-kept JudgeLine (tokens (drop (c .before .before .before .before .before .before .before .before .before .before .before .before .before .before .before .before .before .before .before .before .before .a .given .0 .1 .0) (c .before .before .before .before .before .before .before .before .before .before .before .before .before .before .before .before .before .before .before .before .before .before .before .before .before .args .s .now))) refl) (c .bare-at .ensures)
 
 slice-aggregate-same-7 : tie.Need-slice-aggregate-same-7
 slice-aggregate-same-7 c = search needs
@@ -172,14 +169,14 @@ returns-8 : tie.Need-returns-8
 unfolding form?
 returns-8 c =
     let n = rw (c .before .before .before .before .before .before .before .before .before .before .before .before .before .before .before .before .before .before .before .before .before .before .before .before .a .given .1) at (c .before .before .before .before .before .before .before .before .before .before .before .before .before .before .before .before .before .before .before .before .before .before .before .before .before .before .head-at .ensures) in
-    let e1 = ap (λ (r : List ℕ). same r (bytes "ship")) (sym (c .before .before .before .before .before .before .before .before .before .before .before .before .before .before .before .before .before .before .before .before .before .before .run-of .ensures)) ∙ sym (c .before .before .before .before .before .before .before .before .before .before .before .before .before .before .before .before .before .before .before .before .same .ensures) ∙ c .before .before .before .before .before .before .before .before .before .before .before .before .before .before .before .before .before .before .before .if1 .left in
-    let e2 = ap (λ (r : List ℕ). same r (bytes "column")) (sym (c .before .before .before .before .before .before .before .before .before .before .before .before .before .before .before .before .before .before .before .before .before .before .run-of .ensures)) ∙ sym (c .before .before .before .before .before .before .before .before .before .before .before .before .before .before .before .before .before .same2 .ensures) ∙ c .before .before .before .before .before .before .before .before .before .before .before .before .before .before .before .before .if2 .left in
-    let e3 = ap (λ (r : List ℕ). same r (bytes "load")) (sym (c .before .before .before .before .before .before .before .before .before .before .before .before .before .before .before .before .before .before .before .before .before .before .run-of .ensures)) ∙ sym (c .before .before .before .before .before .before .before .before .before .before .before .before .before .before .same3 .ensures) ∙ c .before .before .before .before .before .before .before .before .before .before .before .before .before .if3 .left in
-    let e4 = ap (λ (r : List ℕ). same r (bytes "hold")) (sym (c .before .before .before .before .before .before .before .before .before .before .before .before .before .before .before .before .before .before .before .before .before .before .run-of .ensures)) ∙ sym (c .before .before .before .before .before .before .before .before .before .before .before .same4 .ensures) ∙ c .before .before .before .before .before .before .before .before .before .before .if4 .left in
-    let e5 = ap (λ (r : List ℕ). same r (bytes "drop")) (sym (c .before .before .before .before .before .before .before .before .before .before .before .before .before .before .before .before .before .before .before .before .before .before .run-of .ensures)) ∙ sym (c .before .before .before .before .before .before .before .before .same5 .ensures) ∙ c .before .before .before .before .before .before .before .if5 .left in
-    let e6 = ap (λ (r : List ℕ). same r (bytes "judge")) (sym (c .before .before .before .before .before .before .before .before .before .before .before .before .before .before .before .before .before .before .before .before .before .before .run-of .ensures)) ∙ sym (c .before .before .before .before .before .same6 .ensures) ∙ c .before .before .before .before .if6 .left in
-    let e7 = ap (λ (r : List ℕ). same r (bytes "clear")) (sym (c .before .before .before .before .before .before .before .before .before .before .before .before .before .before .before .before .before .before .before .before .before .before .run-of .ensures)) ∙ sym (c .before .before .same7 .ensures) ∙ c .before .if7 .taken in
-    rw (n .0 .0, e1, e2, e3, e4, e5, e6, e7, bare-kept ClearLine (tokens (drop (c .before .before .before .before .before .before .before .before .before .before .before .before .before .before .before .before .before .before .before .before .before .before .before .before .a .given .0 .1 .0) (c .before .before .before .before .before .before .before .before .before .before .before .before .before .before .before .before .before .before .before .before .before .before .before .before .before .before .before .before .args .s .now))) refl) (c .bare-at2 .ensures)
+    let e1 = sym (c .before .before .before .before .before .before .before .before .before .before .before .before .before .before .before .before .before .before .before .before .same .ensures) ∙ c .before .before .before .before .before .before .before .before .before .before .before .before .before .before .before .before .before .before .before .if1 .left in
+    let e2 = sym (c .before .before .before .before .before .before .before .before .before .before .before .before .before .before .before .before .before .same2 .ensures) ∙ c .before .before .before .before .before .before .before .before .before .before .before .before .before .before .before .before .if2 .left in
+    let e3 = sym (c .before .before .before .before .before .before .before .before .before .before .before .before .before .before .same3 .ensures) ∙ c .before .before .before .before .before .before .before .before .before .before .before .before .before .if3 .left in
+    let e4 = sym (c .before .before .before .before .before .before .before .before .before .before .before .same4 .ensures) ∙ c .before .before .before .before .before .before .before .before .before .before .if4 .left in
+    let e5 = sym (c .before .before .before .before .before .before .before .before .same5 .ensures) ∙ c .before .before .before .before .before .before .before .if5 .left in
+    let e6 = sym (c .before .before .before .before .before .same6 .ensures) ∙ c .before .before .before .before .if6 .left in
+    let e7 = sym (c .before .before .same7 .ensures) ∙ c .before .if7 .taken in
+    rw (n .0 .0, ← c .before .before .before .before .before .before .before .before .before .before .before .before .before .before .before .before .before .before .before .before .before .before .run-of .ensures, e1, e2, e3, e4, e5, e6, e7, bare-kept ClearLine (tokens (drop (c .before .before .before .before .before .before .before .before .before .before .before .before .before .before .before .before .before .before .before .before .before .before .before .before .a .given .0 .1 .0) (c .before .before .before .before .before .before .before .before .before .before .before .before .before .before .before .before .before .before .before .before .before .before .before .before .before .before .before .before .args .s .now))) refl) (c .bare-at2 .ensures)
 
 no-form-requires-2 : tie.Need-no-form-requires-2
 no-form-requires-2 c κs = search needs
@@ -188,14 +185,14 @@ returns-9 : tie.Need-returns-9
 unfolding form?
 returns-9 c =
     let n = rw (c .before .before .before .before .before .before .before .before .before .before .before .before .before .before .before .before .before .before .before .before .before .before .before .before .a .given .1) at (c .before .before .before .before .before .before .before .before .before .before .before .before .before .before .before .before .before .before .before .before .before .before .before .before .before .before .head-at .ensures) in
-    let e1 = ap (λ (r : List ℕ). same r (bytes "ship")) (sym (c .before .before .before .before .before .before .before .before .before .before .before .before .before .before .before .before .before .before .before .before .before .before .run-of .ensures)) ∙ sym (c .before .before .before .before .before .before .before .before .before .before .before .before .before .before .before .before .before .before .before .before .same .ensures) ∙ c .before .before .before .before .before .before .before .before .before .before .before .before .before .before .before .before .before .before .before .if1 .left in
-    let e2 = ap (λ (r : List ℕ). same r (bytes "column")) (sym (c .before .before .before .before .before .before .before .before .before .before .before .before .before .before .before .before .before .before .before .before .before .before .run-of .ensures)) ∙ sym (c .before .before .before .before .before .before .before .before .before .before .before .before .before .before .before .before .before .same2 .ensures) ∙ c .before .before .before .before .before .before .before .before .before .before .before .before .before .before .before .before .if2 .left in
-    let e3 = ap (λ (r : List ℕ). same r (bytes "load")) (sym (c .before .before .before .before .before .before .before .before .before .before .before .before .before .before .before .before .before .before .before .before .before .before .run-of .ensures)) ∙ sym (c .before .before .before .before .before .before .before .before .before .before .before .before .before .before .same3 .ensures) ∙ c .before .before .before .before .before .before .before .before .before .before .before .before .before .if3 .left in
-    let e4 = ap (λ (r : List ℕ). same r (bytes "hold")) (sym (c .before .before .before .before .before .before .before .before .before .before .before .before .before .before .before .before .before .before .before .before .before .before .run-of .ensures)) ∙ sym (c .before .before .before .before .before .before .before .before .before .before .before .same4 .ensures) ∙ c .before .before .before .before .before .before .before .before .before .before .if4 .left in
-    let e5 = ap (λ (r : List ℕ). same r (bytes "drop")) (sym (c .before .before .before .before .before .before .before .before .before .before .before .before .before .before .before .before .before .before .before .before .before .before .run-of .ensures)) ∙ sym (c .before .before .before .before .before .before .before .before .same5 .ensures) ∙ c .before .before .before .before .before .before .before .if5 .left in
-    let e6 = ap (λ (r : List ℕ). same r (bytes "judge")) (sym (c .before .before .before .before .before .before .before .before .before .before .before .before .before .before .before .before .before .before .before .before .before .before .run-of .ensures)) ∙ sym (c .before .before .before .before .before .same6 .ensures) ∙ c .before .before .before .before .if6 .left in
-    let e7 = ap (λ (r : List ℕ). same r (bytes "clear")) (sym (c .before .before .before .before .before .before .before .before .before .before .before .before .before .before .before .before .before .before .before .before .before .before .run-of .ensures)) ∙ sym (c .before .before .same7 .ensures) ∙ c .before .if7 .left in
-    rw (c .no-form2 .ensures .1, n .0 .0, e1, e2, e3, e4, e5, e6, e7)
+    let e1 = sym (c .before .before .before .before .before .before .before .before .before .before .before .before .before .before .before .before .before .before .before .before .same .ensures) ∙ c .before .before .before .before .before .before .before .before .before .before .before .before .before .before .before .before .before .before .before .if1 .left in
+    let e2 = sym (c .before .before .before .before .before .before .before .before .before .before .before .before .before .before .before .before .before .same2 .ensures) ∙ c .before .before .before .before .before .before .before .before .before .before .before .before .before .before .before .before .if2 .left in
+    let e3 = sym (c .before .before .before .before .before .before .before .before .before .before .before .before .before .before .same3 .ensures) ∙ c .before .before .before .before .before .before .before .before .before .before .before .before .before .if3 .left in
+    let e4 = sym (c .before .before .before .before .before .before .before .before .before .before .before .same4 .ensures) ∙ c .before .before .before .before .before .before .before .before .before .before .if4 .left in
+    let e5 = sym (c .before .before .before .before .before .before .before .before .same5 .ensures) ∙ c .before .before .before .before .before .before .before .if5 .left in
+    let e6 = sym (c .before .before .before .before .before .same6 .ensures) ∙ c .before .before .before .before .if6 .left in
+    let e7 = sym (c .before .before .same7 .ensures) ∙ c .before .if7 .left in
+    rw (c .no-form2 .ensures .1, n .0 .0, ← c .before .before .before .before .before .before .before .before .before .before .before .before .before .before .before .before .before .before .before .before .before .before .run-of .ensures, e1, e2, e3, e4, e5, e6, e7)
 
 pub form-at-spec : {M : Type 1} → statement M
 form-at-spec =

@@ -1,7 +1,4 @@
-use mathlib.Core.Path.{sym, _∙_, ap}
-use mathlib.Core.List.{List}
-use Prim.Native.Nat.{ℕ, _-_}
-use Rattle.whole.specs.Bytes.{bytes}
+use mathlib.Core.Path.{sym, _∙_}
 use Rattle.text.specs.Token.{same}
 use Rattle.request.specs.Shape.{hold?}
 use borrow.Author.Needs.{needs}
@@ -56,8 +53,8 @@ slice-aggregate-same c = search needs
 same-requires : tie.Need-same-requires
 same-requires c κs = search needs
 
-filled-at-requires : tie.Need-filled-at-requires
-filled-at-requires c κs =
+parts-at-requires : tie.Need-parts-at-requires
+parts-at-requires c κs =
     let n = rw (c .before .before .before .before .before .a .given .1) at (c .before .before .before .before .before .before .before .span-at .ensures) in
     n .0 .1
 
@@ -66,8 +63,8 @@ unfolding hold?
 returns-3 c =
     let m = rw (c .before .before .before .before .before .before .before .before .before .before .n .given .1) at (c .before .before .before .before .before .before .before .before .before .before .before .before .number-at .ensures) in
     let n = rw (c .before .before .before .before .before .before .a .given .1) at (c .before .before .before .before .before .before .before .before .span-at .ensures) in
-    let e1 = ap (λ (r : List ℕ). same r (bytes "trimmed")) (sym (c .before .before .before .before .run-of .ensures)) ∙ sym (c .before .before .same .ensures) ∙ c .before .if1 .taken in
-    rw (m .0, n .0 .0, e1) (c .filled-at .ensures)
+    let e1 = sym (c .before .before .same .ensures) ∙ c .before .if1 .taken in
+    rw (m .0, n .0 .0, ← c .before .before .before .before .run-of .ensures, e1) (c .parts-at .ensures)
 
 slice-aggregate-same-2 : tie.Need-slice-aggregate-same-2
 slice-aggregate-same-2 c = search needs
@@ -75,8 +72,8 @@ slice-aggregate-same-2 c = search needs
 same-requires-2 : tie.Need-same-requires-2
 same-requires-2 c κs = search needs
 
-filled-at-requires-2 : tie.Need-filled-at-requires-2
-filled-at-requires-2 c κs =
+parts-at-requires-2 : tie.Need-parts-at-requires-2
+parts-at-requires-2 c κs =
     let n = rw (c .before .before .before .before .before .before .before .before .a .given .1) at (c .before .before .before .before .before .before .before .before .before .before .span-at .ensures) in
     n .0 .1
 
@@ -85,9 +82,9 @@ unfolding hold?
 returns-4 c =
     let m = rw (c .before .before .before .before .before .before .before .before .before .before .before .before .before .n .given .1) at (c .before .before .before .before .before .before .before .before .before .before .before .before .before .before .before .number-at .ensures) in
     let n = rw (c .before .before .before .before .before .before .before .before .before .a .given .1) at (c .before .before .before .before .before .before .before .before .before .before .before .span-at .ensures) in
-    let e1 = ap (λ (r : List ℕ). same r (bytes "trimmed")) (sym (c .before .before .before .before .before .before .before .run-of .ensures)) ∙ sym (c .before .before .before .before .before .same .ensures) ∙ c .before .before .before .before .if1 .left in
-    let e2 = ap (λ (r : List ℕ). same r (bytes "voided")) (sym (c .before .before .before .before .before .before .before .run-of .ensures)) ∙ sym (c .before .before .same2 .ensures) ∙ c .before .if2 .taken in
-    rw (m .0, n .0 .0, e1, e2) (c .filled-at2 .ensures)
+    let e1 = sym (c .before .before .before .before .before .same .ensures) ∙ c .before .before .before .before .if1 .left in
+    let e2 = sym (c .before .before .same2 .ensures) ∙ c .before .if2 .taken in
+    rw (m .0, n .0 .0, ← c .before .before .before .before .before .before .before .run-of .ensures, e1, e2) (c .parts-at2 .ensures)
 
 slice-aggregate-same-3 : tie.Need-slice-aggregate-same-3
 slice-aggregate-same-3 c = search needs
@@ -95,8 +92,8 @@ slice-aggregate-same-3 c = search needs
 same-requires-3 : tie.Need-same-requires-3
 same-requires-3 c κs = search needs
 
-filled-at-requires-3 : tie.Need-filled-at-requires-3
-filled-at-requires-3 c κs =
+parts-at-requires-3 : tie.Need-parts-at-requires-3
+parts-at-requires-3 c κs =
     let n = rw (c .before .before .before .before .before .before .before .before .before .before .before .a .given .1) at (c .before .before .before .before .before .before .before .before .before .before .before .before .before .span-at .ensures) in
     n .0 .1
 
@@ -105,10 +102,10 @@ unfolding hold?
 returns-5 c =
     let m = rw (c .before .before .before .before .before .before .before .before .before .before .before .before .before .before .before .before .n .given .1) at (c .before .before .before .before .before .before .before .before .before .before .before .before .before .before .before .before .before .before .number-at .ensures) in
     let n = rw (c .before .before .before .before .before .before .before .before .before .before .before .before .a .given .1) at (c .before .before .before .before .before .before .before .before .before .before .before .before .before .before .span-at .ensures) in
-    let e1 = ap (λ (r : List ℕ). same r (bytes "trimmed")) (sym (c .before .before .before .before .before .before .before .before .before .before .run-of .ensures)) ∙ sym (c .before .before .before .before .before .before .before .before .same .ensures) ∙ c .before .before .before .before .before .before .before .if1 .left in
-    let e2 = ap (λ (r : List ℕ). same r (bytes "voided")) (sym (c .before .before .before .before .before .before .before .before .before .before .run-of .ensures)) ∙ sym (c .before .before .before .before .before .same2 .ensures) ∙ c .before .before .before .before .if2 .left in
-    let e3 = ap (λ (r : List ℕ). same r (bytes "partial")) (sym (c .before .before .before .before .before .before .before .before .before .before .run-of .ensures)) ∙ sym (c .before .before .same3 .ensures) ∙ c .before .if3 .taken in
-    rw (m .0, n .0 .0, e1, e2, e3) (c .filled-at3 .ensures)
+    let e1 = sym (c .before .before .before .before .before .before .before .before .same .ensures) ∙ c .before .before .before .before .before .before .before .if1 .left in
+    let e2 = sym (c .before .before .before .before .before .same2 .ensures) ∙ c .before .before .before .before .if2 .left in
+    let e3 = sym (c .before .before .same3 .ensures) ∙ c .before .if3 .taken in
+    rw (m .0, n .0 .0, ← c .before .before .before .before .before .before .before .before .before .before .run-of .ensures, e1, e2, e3) (c .parts-at3 .ensures)
 
 no-form-requires-3 : tie.Need-no-form-requires-3
 no-form-requires-3 c κs = search needs
@@ -118,10 +115,10 @@ unfolding hold?
 returns-6 c =
     let m = rw (c .before .before .before .before .before .before .before .before .before .before .before .before .before .before .before .before .n .given .1) at (c .before .before .before .before .before .before .before .before .before .before .before .before .before .before .before .before .before .before .number-at .ensures) in
     let n = rw (c .before .before .before .before .before .before .before .before .before .before .before .before .a .given .1) at (c .before .before .before .before .before .before .before .before .before .before .before .before .before .before .span-at .ensures) in
-    let e1 = ap (λ (r : List ℕ). same r (bytes "trimmed")) (sym (c .before .before .before .before .before .before .before .before .before .before .run-of .ensures)) ∙ sym (c .before .before .before .before .before .before .before .before .same .ensures) ∙ c .before .before .before .before .before .before .before .if1 .left in
-    let e2 = ap (λ (r : List ℕ). same r (bytes "voided")) (sym (c .before .before .before .before .before .before .before .before .before .before .run-of .ensures)) ∙ sym (c .before .before .before .before .before .same2 .ensures) ∙ c .before .before .before .before .if2 .left in
-    let e3 = ap (λ (r : List ℕ). same r (bytes "partial")) (sym (c .before .before .before .before .before .before .before .before .before .before .run-of .ensures)) ∙ sym (c .before .before .same3 .ensures) ∙ c .before .if3 .left in
-    rw (c .no-form3 .ensures .1, m .0, n .0 .0, e1, e2, e3)
+    let e1 = sym (c .before .before .before .before .before .before .before .before .same .ensures) ∙ c .before .before .before .before .before .before .before .if1 .left in
+    let e2 = sym (c .before .before .before .before .before .same2 .ensures) ∙ c .before .before .before .before .if2 .left in
+    let e3 = sym (c .before .before .same3 .ensures) ∙ c .before .if3 .left in
+    rw (c .no-form3 .ensures .1, m .0, n .0 .0, ← c .before .before .before .before .before .before .before .before .before .before .run-of .ensures, e1, e2, e3)
 
 pub hold-at-spec : {M : Type 1} → statement M
 hold-at-spec =
@@ -140,15 +137,15 @@ hold-at-spec =
     run-of-requires
     slice-aggregate-same
     same-requires
-    filled-at-requires
+    parts-at-requires
     returns-3
     slice-aggregate-same-2
     same-requires-2
-    filled-at-requires-2
+    parts-at-requires-2
     returns-4
     slice-aggregate-same-3
     same-requires-3
-    filled-at-requires-3
+    parts-at-requires-3
     returns-5
     no-form-requires-3
     returns-6)

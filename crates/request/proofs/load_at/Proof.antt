@@ -1,12 +1,11 @@
 use mathlib.Core.List.{map}
-use Prim.Native.Nat.{_-_}
 use native.Mathlib.Omega.{arith}
 use lib.ListN.{take, drop}
 use Rattle.text.specs.Token.{tokens}
 use Rattle.request.specs.declared.Kind.the-variants.{LoadLine}
 use Rattle.request.specs.Grammar.{lastNumbers?}
 use Rattle.request.specs.Carried.{carried, carriedRequest}
-use Rattle.request.proofs.Readings.{ends-built, nth-kept}
+use Rattle.request.proofs.Walks.{ends-built, nth-kept}
 use Rattle.request.specs.Shape.{load?, plain, nth}
 use borrow.Author.Needs.{needs}
 use Rattle.request.proofs.load_at.Statement.{statement}

@@ -1,7 +1,4 @@
-use mathlib.Core.Path.{sym, _∙_, ap}
-use mathlib.Core.List.{List}
-use Prim.Native.Nat.{ℕ, _-_}
-use Rattle.whole.specs.Bytes.{bytes}
+use mathlib.Core.Path.{sym, _∙_}
 use Rattle.text.specs.Token.{same}
 use Rattle.request.specs.Shape.{part?}
 use borrow.Author.Needs.{needs}
@@ -46,8 +43,8 @@ returns-2 : tie.Need-returns-2
 unfolding part?
 returns-2 c =
     let n = rw (c .before .before .before .before .before .before .a .given .1) at (c .before .before .before .before .before .before .before .before .head-at .ensures) in
-    let e1 = ap (λ (r : List ℕ). same r (bytes "part")) (sym (c .before .before .before .before .run-of .ensures)) ∙ sym (c .before .before .same .ensures) ∙ c .before .if1 .taken in
-    rw (n .0 .0, e1) (c .body-at .ensures)
+    let e1 = sym (c .before .before .same .ensures) ∙ c .before .if1 .taken in
+    rw (n .0 .0, ← c .before .before .before .before .run-of .ensures, e1) (c .body-at .ensures)
 
 no-part-item-requires-2 : tie.Need-no-part-item-requires-2
 no-part-item-requires-2 c κs = search needs
@@ -56,8 +53,8 @@ returns-3 : tie.Need-returns-3
 unfolding part?
 returns-3 c =
     let n = rw (c .before .before .before .before .before .before .a .given .1) at (c .before .before .before .before .before .before .before .before .head-at .ensures) in
-    let e1 = ap (λ (r : List ℕ). same r (bytes "part")) (sym (c .before .before .before .before .run-of .ensures)) ∙ sym (c .before .before .same .ensures) ∙ c .before .if1 .left in
-    rw (c .no-part-item2 .ensures .1, n .0 .0, e1)
+    let e1 = sym (c .before .before .same .ensures) ∙ c .before .if1 .left in
+    rw (c .no-part-item2 .ensures .1, n .0 .0, ← c .before .before .before .before .run-of .ensures, e1)
 
 pub part-at-spec : {M : Type 1} → statement M
 part-at-spec =

@@ -1,120 +1,72 @@
-use Prim.Native.Nat.{_≤_, _-_, _+_, _<_}
+use mathlib.Core.Path.{_∙_}
 use native.Mathlib.Omega.{arith}
-use mathlib.Core.Path.{_≡_, sym, _∙_}
-use lib.ListN.{length, take, drop}
+use lib.ListN.{drop}
 use Rattle.text.specs.Token.{tokens}
-use Rattle.request.proofs.Readings.{ahead, ahead-one, ahead-none, ahead-end, kept-items, items-closed, items-stop, items-next, items-end, Filling, filling-none, filling-more, filling-taken, filled}
+use Rattle.request.specs.Grammar.{number?, items?}
+use Rattle.request.specs.Carried.{carried, carriedRequest, carriedPart}
+use Rattle.request.proofs.Walks.{carries, carries-none}
 use Rattle.record.specs.Filler.{noPart}
-use Rattle.request.specs.Shape.{part?}
-use Rattle.request.specs.Carried.{carriedPart}
+use Rattle.request.proofs.Records.{some-items, no-items, hold-kept}
+use Rattle.request.specs.Shape.{parts?, part?, holdRequest, holdRecord}
 use borrow.Author.Needs.{needs}
 use Rattle.request.proofs.parts_at.Statement.{statement}
 use Rattle.request.proofs.parts_at.Tie as tie
 
-abbrev Inv-loop : tie.InvT-loop
-Inv-loop s at mode parts₀ p₀ i₀ parts p i = Filling 6 noPart i parts × (p ≤ length s) × (kept-items carriedPart (part? mode) 6 (tokens (drop at s)) ≡ ahead (take i parts) (kept-items carriedPart (part? mode) (6 - i) (tokens (drop p s))))
+size-at-requires : tie.Need-size-at-requires
+size-at-requires c κs = search needs
 
-abbrev μ-loop : tie.MeasureT-loop
-μ-loop s at mode parts₀ p₀ i₀ parts p i = 6 - i
+enum-known-factor : tie.Need-enum-known-factor
+enum-known-factor c = search needs
 
-no-part-requires : tie.Need-no-part-requires Inv-loop μ-loop
-no-part-requires c κs = search needs
-
-loop-holds : tie.Need-loop-holds Inv-loop μ-loop
-loop-holds c = (rw (c .no-part .ensures) (filling-none 6 noPart), c .before .before .pre, sym (ahead-none (kept-items carriedPart (part? (c .before .before .args .mode)) 6 (tokens (drop (c .before .before .args .at) (c .before .before .args .s .now))))))
-
-close-at-requires : tie.Need-close-at-requires Inv-loop μ-loop
-close-at-requires c κs = search needs
-
-enum-known-end : tie.Need-enum-known-end Inv-loop μ-loop
-enum-known-end c = search needs
-
-cast-t16 : tie.Need-cast-t16 Inv-loop μ-loop
-cast-t16 c = let b : c .before .before .before .before .before .loop .i < 6 = search needs in search needs
-
-returns : tie.Need-returns Inv-loop μ-loop
-returns c =
-    let n = rw (c .before .end .given .1) at (c .before .before .before .close-at .ensures) in
-    let i = c .before .before .before .before .before .loop .i in
-    let xs = c .before .before .before .before .before .loop .parts in
-    ((c .before .before .before .before .before .loop .inv .2 ∙ rw (items-closed carriedPart (part? (c .before .before .before .before .before .before .before .before .args .mode)) (6 - i) (tokens (drop (c .before .before .before .before .before .loop .p) (c .before .before .before .before .before .before .before .before .args .s .now))) _ (n .0)) (ahead-end (take i xs) _), n .1), filled 6 noPart i xs (c .before .before .before .before .before .loop .inv .0) .0, filled 6 noPart i xs (c .before .before .before .before .before .loop .inv .0) .1)
-
-enum-told : tie.Need-enum-told Inv-loop μ-loop
+enum-told : tie.Need-enum-told
 enum-told c = search needs
 
-part-at-requires : tie.Need-part-at-requires Inv-loop μ-loop
-part-at-requires c κs = search needs
+no-form-requires : tie.Need-no-form-requires
+no-form-requires c κs = search needs
 
-enum-known-last : tie.Need-enum-known-last Inv-loop μ-loop
-enum-known-last c = search needs
+returns : tie.Need-returns
+unfolding parts?
+returns c =
+    let n = rw (c .before .enum-told .given .1) at (c .before .before .before .size-at .ensures) in
+    rw (c .no-form .ensures .1, carries-none carried (number? (tokens (drop (c .before .before .before .before .before .args .at) (c .before .before .before .before .before .args .s .now)))) n)
 
-enum-told-2 : tie.Need-enum-told-2 Inv-loop μ-loop
-enum-told-2 c = search needs
+part-list-at-requires : tie.Need-part-list-at-requires
+part-list-at-requires c κs =
+    let n = rw (c .before .factor .given .1) at (c .before .before .before .size-at .ensures) in
+    n .1
 
-returns-2 : tie.Need-returns-2 Inv-loop μ-loop
+no-form-requires-2 : tie.Need-no-form-requires-2
+no-form-requires-2 c κs = search needs
+
+returns-2 : tie.Need-returns-2
+unfolding parts?
 returns-2 c =
-    let i = c .before .before .before .before .before .before .before .loop .i in
-    let ts = tokens (drop (c .before .before .before .before .before .before .before .loop .p) (c .before .before .before .before .before .before .before .before .before .before .args .s .now)) in
-    let n = rw (c .before .before .before .enum-told .given .1) at (c .before .before .before .before .before .close-at .ensures) in
-    let m = rw (c .enum-told2 .given .1) at (c .before .before .part-at .ensures) in
-    c .before .before .before .before .before .before .before .loop .inv .2 ∙ rw (items-stop carriedPart (part? (c .before .before .before .before .before .before .before .before .before .before .args .mode)) (6 - i) ts n (omega arith) m)
+    let n = rw (c .before .before .before .before .factor .given .1) at (c .before .before .before .before .before .before .size-at .ensures) in
+    let i = carries carried (number? (tokens (drop (c .before .before .before .before .before .before .before .before .args .at) (c .before .before .before .before .before .before .before .before .args .s .now)))) (c .before .before .before .before .factor .given .0 .0) (tokens (drop (c .before .before .before .before .factor .given .0 .1 .0) (c .before .before .before .before .before .before .before .before .args .s .now))) (n .0) in
+    rw (c .no-form2 .ensures .1, i .is) (no-items carriedRequest (λ xs. holdRequest (c .before .before .before .before .before .before .before .before .args .n) (holdRecord (c .before .before .before .before .before .before .before .before .args .mode) (i .read) xs)) carriedPart (items? 6 (part? (c .before .before .before .before .before .before .before .before .args .mode)) (tokens (drop (c .before .before .before .before .factor .given .0 .1 .0) (c .before .before .before .before .before .before .before .before .args .s .now)))) (c .before .before .before .before .before .before .before .before .args .s .now) 6 noPart (c .before .before .part-list-at .result .count) (c .before .before .part-list-at .result .parts) (c .before .before .part-list-at .result .end) (c .before .before .part-list-at .ensures) (c .before .if1 .taken))
 
-mul-parts : tie.Need-mul-parts Inv-loop μ-loop
-mul-parts c = search needs
+no-column-requires : tie.Need-no-column-requires
+no-column-requires c κs = search needs
 
-array-set-from-parts : tie.Need-array-set-from-parts Inv-loop μ-loop
-array-set-from-parts c = search needs
-
-add-i : tie.Need-add-i Inv-loop μ-loop
-add-i c = search needs
-
-loop-less : tie.Need-loop-less Inv-loop μ-loop
-loop-less c = search needs
-
-loop-again : tie.Need-loop-again Inv-loop μ-loop
-loop-again c =
-    let i = c .before .before .before .before .before .before .before .before .before .loop .i in
-    let xs = c .before .before .before .before .before .before .before .before .before .loop .parts in
-    let ts = tokens (drop (c .before .before .before .before .before .before .before .before .before .loop .p) (c .before .before .before .before .before .before .before .before .before .before .before .before .args .s .now)) in
-    let x = c .before .before .before .before .part-at .result .part in
-    let us = tokens (drop (c .before .before .last .given .0 .0) (c .before .before .before .before .before .before .before .before .before .before .before .before .args .s .now)) in
-    let n = rw (c .before .before .before .before .before .enum-told .given .1) at (c .before .before .before .before .before .before .before .close-at .ensures) in
-    let m = rw (c .before .before .last .given .1) at (c .before .before .before .before .part-at .ensures) in
-    let k : 6 - i - 1 ≡ 6 - (i + 1) = omega arith in
-    let g = items-next carriedPart (part? (c .before .before .before .before .before .before .before .before .before .before .before .before .args .mode)) (6 - i) ts n x us (omega arith) (m .0) in
-    let t = filling-taken 6 noPart i xs x (c .before .before .before .before .before .before .before .before .before .loop .inv .0) (omega arith) in
-    (filling-more 6 noPart i xs x (c .before .before .before .before .before .before .before .before .before .loop .inv .0) (omega arith), m .1, c .before .before .before .before .before .before .before .before .before .loop .inv .2 ∙ rw (g, k, t) (sym (ahead-one (take i xs) x (kept-items carriedPart (part? (c .before .before .before .before .before .before .before .before .before .before .before .before .args .mode)) (6 - (i + 1)) us))))
-
-close-at-requires-2 : tie.Need-close-at-requires-2 Inv-loop μ-loop
-close-at-requires-2 c κs = search needs
-
-returns-3 : tie.Need-returns-3 Inv-loop μ-loop
+returns-3 : tie.Need-returns-3
+unfolding parts?
 returns-3 c =
-    let i = c .before .before .loop .i in
-    let e : 6 ≡ i = omega (arith, c .before .before .loop .inv .0 .upto) in
-    items-end carriedPart (part? (c .before .before .before .before .before .args .mode)) (c .before .before .before .before .before .args .s .now) (c .before .before .loop .p) 6 noPart 6 i (c .before .before .loop .parts) _ (c .close-at2 .result) (c .before .before .loop .inv .0) e (omega arith) (c .before .before .loop .inv .2) (c .close-at2 .ensures)
+    let n = rw (c .before .before .before .before .before .factor .given .1) at (c .before .before .before .before .before .before .before .size-at .ensures) in
+    let i = carries carried (number? (tokens (drop (c .before .before .before .before .before .before .before .before .before .args .at) (c .before .before .before .before .before .before .before .before .before .args .s .now)))) (c .before .before .before .before .before .factor .given .0 .0) (tokens (drop (c .before .before .before .before .before .factor .given .0 .1 .0) (c .before .before .before .before .before .before .before .before .before .args .s .now))) (n .0) in
+    rw (i .is) (some-items carriedRequest (λ xs. holdRequest (c .before .before .before .before .before .before .before .before .before .args .n) (holdRecord (c .before .before .before .before .before .before .before .before .before .args .mode) (i .read) xs)) carriedPart (items? 6 (part? (c .before .before .before .before .before .before .before .before .before .args .mode)) (tokens (drop (c .before .before .before .before .before .factor .given .0 .1 .0) (c .before .before .before .before .before .before .before .before .before .args .s .now)))) (c .before .before .before .before .before .before .before .before .before .args .s .now) 6 noPart (c .before .before .before .part-list-at .result .count) (c .before .before .before .part-list-at .result .parts) _ (c .before .before .before .part-list-at .result .end) (c .before .before .before .part-list-at .ensures) (omega arith)
+    (λ xs l e. hold-kept (c .before .before .before .before .before .before .before .before .before .args .n) (c .before .before .before .before .before .before .before .before .before .args .mode) (i .read) xs ∙ rw (c .no-column .ensures, ← i .kept, l, ← e)))
 
 pub parts-at-spec : {M : Type 1} → statement M
 parts-at-spec =
     tie.close
     (tie.spec
-    Inv-loop
-    μ-loop
-    no-part-requires
-    loop-holds
-    close-at-requires
-    enum-known-end
-    cast-t16
-    returns
+    size-at-requires
+    enum-known-factor
     enum-told
-    part-at-requires
-    enum-known-last
-    enum-told-2
+    no-form-requires
+    returns
+    part-list-at-requires
+    no-form-requires-2
     returns-2
-    mul-parts
-    array-set-from-parts
-    add-i
-    loop-less
-    loop-again
-    close-at-requires-2
+    no-column-requires
     returns-3)

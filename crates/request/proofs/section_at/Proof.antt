@@ -1,10 +1,9 @@
-use Prim.Native.Nat.{_-_}
 use native.Mathlib.Omega.{arith}
 use lib.ListN.{drop}
 use Rattle.text.specs.Token.{tokens}
 use Rattle.request.specs.Grammar.{number?, items?}
 use Rattle.request.specs.Carried.{carried, carriedPart, slotOf}
-use Rattle.request.proofs.Readings.{carries, carries-none}
+use Rattle.request.proofs.Walks.{carries, carries-none}
 use Rattle.record.specs.Filler.{noSlot}
 use Rattle.request.proofs.Records.{some-items, no-items, section-kept}
 use Rattle.request.specs.Shape.{section?, sectionRecord, cell?}

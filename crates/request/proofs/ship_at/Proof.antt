@@ -1,11 +1,9 @@
-use Rattle.request.proofs.Readings.{then-none, ends-built, nth-kept}
+use Rattle.request.proofs.Walks.{then-none, ends-built, nth-kept}
 use Rattle.request.specs.Shape.{ship?, shipRequest, nth}
-use mathlib.Core.Path.{sym, _∙_, ap}
-use mathlib.Core.List.{List, map}
-use Prim.Native.Nat.{ℕ, _-_}
+use mathlib.Core.Path.{sym, _∙_}
+use mathlib.Core.List.{map}
 use native.Mathlib.Omega.{arith}
 use lib.ListN.{take, drop}
-use Rattle.whole.specs.Bytes.{bytes}
 use Rattle.text.specs.Token.{tokens, same}
 use Rattle.record.specs.declared.Rule.the-variants.{New, Old}
 use Rattle.request.specs.Grammar.{lastNumbers?}
@@ -61,9 +59,9 @@ returns-2 : tie.Need-returns-2
 unfolding ship? carriedRequest
 returns-2 c =
     let n = rw (c .before .before .before .before .before .before .before .before .a .given .1) at (c .before .before .before .before .before .before .before .before .before .before .span-at .ensures) in
-    let f = ap (λ (r : List ℕ). same r (bytes "new")) (sym (c .before .before .before .before .run-of .ensures)) ∙ sym (c .before .before .same .ensures) ∙ c .before .if1 .taken in
+    let f = sym (c .before .before .same .ensures) ∙ c .before .if1 .taken in
     let v = c .before .before .before .before .before .before .sizes-at .result .values in
-    rw (n .0 .0, f) (ends-built carriedRequest (λ x. shipRequest (New (nth x 0)) (nth x 1)) (lastNumbers? 2 (tokens (drop (c .before .before .before .before .before .before .before .before .a .given .0 .1 .0) (c .before .before .before .before .before .before .before .before .before .before .before .before .args .s .now)))) (c .before .before .before .before .before .before .before .before .before .before .before .before .args .s .now) _ (map carried) (take 2 v) (c .before .before .before .before .before .before .sizes-at .result .end) (c .before .before .before .before .before .before .sizes-at .ensures)
+    rw (n .0 .0, ← c .before .before .before .before .run-of .ensures, f) (ends-built carriedRequest (λ x. shipRequest (New (nth x 0)) (nth x 1)) (lastNumbers? 2 (tokens (drop (c .before .before .before .before .before .before .before .before .a .given .0 .1 .0) (c .before .before .before .before .before .before .before .before .before .before .before .before .args .s .now)))) (c .before .before .before .before .before .before .before .before .before .before .before .before .args .s .now) _ (map carried) (take 2 v) (c .before .before .before .before .before .before .sizes-at .result .end) (c .before .before .before .before .before .before .sizes-at .ensures)
     (λ x e. rw (c .plain .ensures, nth-kept 2 v x 0 e (omega arith), nth-kept 2 v x 1 e (omega arith))))
 
 slice-aggregate-same-2 : tie.Need-slice-aggregate-same-2
@@ -82,10 +80,10 @@ returns-3 : tie.Need-returns-3
 unfolding ship? carriedRequest
 returns-3 c =
     let n = rw (c .before .before .before .before .before .before .before .before .before .before .before .a .given .1) at (c .before .before .before .before .before .before .before .before .before .before .before .before .before .span-at .ensures) in
-    let f = ap (λ (r : List ℕ). same r (bytes "new")) (sym (c .before .before .before .before .before .before .before .run-of .ensures)) ∙ sym (c .before .before .before .before .before .same .ensures) ∙ c .before .before .before .before .if1 .left in
-    let g = ap (λ (r : List ℕ). same r (bytes "old")) (sym (c .before .before .before .before .before .before .before .run-of .ensures)) ∙ sym (c .before .before .same2 .ensures) ∙ c .before .if2 .taken in
+    let f = sym (c .before .before .before .before .before .same .ensures) ∙ c .before .before .before .before .if1 .left in
+    let g = sym (c .before .before .same2 .ensures) ∙ c .before .if2 .taken in
     let v = c .before .before .before .before .before .before .before .before .before .sizes-at .result .values in
-    rw (n .0 .0, f, g) (ends-built carriedRequest (λ x. shipRequest (Old (nth x 0)) (nth x 1)) (lastNumbers? 2 (tokens (drop (c .before .before .before .before .before .before .before .before .before .before .before .a .given .0 .1 .0) (c .before .before .before .before .before .before .before .before .before .before .before .before .before .before .before .args .s .now)))) (c .before .before .before .before .before .before .before .before .before .before .before .before .before .before .before .args .s .now) _ (map carried) (take 2 v) (c .before .before .before .before .before .before .before .before .before .sizes-at .result .end) (c .before .before .before .before .before .before .before .before .before .sizes-at .ensures)
+    rw (n .0 .0, ← c .before .before .before .before .before .before .before .run-of .ensures, f, g) (ends-built carriedRequest (λ x. shipRequest (Old (nth x 0)) (nth x 1)) (lastNumbers? 2 (tokens (drop (c .before .before .before .before .before .before .before .before .before .before .before .a .given .0 .1 .0) (c .before .before .before .before .before .before .before .before .before .before .before .before .before .before .before .args .s .now)))) (c .before .before .before .before .before .before .before .before .before .before .before .before .before .before .before .args .s .now) _ (map carried) (take 2 v) (c .before .before .before .before .before .before .before .before .before .sizes-at .result .end) (c .before .before .before .before .before .before .before .before .before .sizes-at .ensures)
     (λ x e. rw (c .plain2 .ensures, nth-kept 2 v x 0 e (omega arith), nth-kept 2 v x 1 e (omega arith))))
 
 no-form-requires-2 : tie.Need-no-form-requires-2
@@ -95,9 +93,9 @@ returns-4 : tie.Need-returns-4
 unfolding ship?
 returns-4 c =
     let n = rw (c .before .before .before .before .before .before .before .before .before .before .before .a .given .1) at (c .before .before .before .before .before .before .before .before .before .before .before .before .before .span-at .ensures) in
-    let f = ap (λ (r : List ℕ). same r (bytes "new")) (sym (c .before .before .before .before .before .before .before .run-of .ensures)) ∙ sym (c .before .before .before .before .before .same .ensures) ∙ c .before .before .before .before .if1 .left in
-    let g = ap (λ (r : List ℕ). same r (bytes "old")) (sym (c .before .before .before .before .before .before .before .run-of .ensures)) ∙ sym (c .before .before .same2 .ensures) ∙ c .before .if2 .left in
-    rw (c .no-form2 .ensures .1, n .0 .0, f, g) (then-none carriedRequest (lastNumbers? 2 (tokens (drop (c .before .before .before .before .before .before .before .before .before .before .before .a .given .0 .1 .0) (c .before .before .before .before .before .before .before .before .before .before .before .before .before .before .before .args .s .now)))))
+    let f = sym (c .before .before .before .before .before .same .ensures) ∙ c .before .before .before .before .if1 .left in
+    let g = sym (c .before .before .same2 .ensures) ∙ c .before .if2 .left in
+    rw (c .no-form2 .ensures .1, n .0 .0, ← c .before .before .before .before .before .before .before .run-of .ensures, f, g) (then-none carriedRequest (lastNumbers? 2 (tokens (drop (c .before .before .before .before .before .before .before .before .before .before .before .a .given .0 .1 .0) (c .before .before .before .before .before .before .before .before .before .before .before .before .before .before .before .args .s .now)))))
 
 pub ship-at-spec : {M : Type 1} → statement M
 ship-at-spec =

@@ -6,7 +6,7 @@ use mathlib.Core.List.{[], _∷_, _++_}
 use lib.ListN.{length, take, drop, set, length-set}
 use lib.Seq.{take-suc-set}
 use Rattle.text.specs.Token.{tokens}
-use Rattle.request.proofs.Readings.{ahead, ahead-one, ahead-none, sizes, sizes-stop, sizes-next, sizes-end}
+use Rattle.request.proofs.Walks.{ahead, ahead-one, ahead-none, sizes, sizes-stop, sizes-next, sizes-end}
 use borrow.Author.Needs.{needs}
 use Rattle.request.proofs.sizes_at.Statement.{statement}
 use Rattle.request.proofs.sizes_at.Tie as tie

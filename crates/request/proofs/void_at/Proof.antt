@@ -1,11 +1,10 @@
 use mathlib.Core.List.{map}
-use Prim.Native.Nat.{_-_}
 use native.Mathlib.Omega.{arith}
 use lib.ListN.{take, drop}
 use Rattle.text.specs.Token.{tokens}
 use Rattle.request.specs.Grammar.{lastNumbers?}
 use Rattle.request.specs.Carried.{carried}
-use Rattle.request.proofs.Readings.{carries, carries-none, nth-kept}
+use Rattle.request.proofs.Walks.{carries, carries-none, nth-kept}
 use Rattle.request.specs.Shape.{void?}
 use borrow.Author.Needs.{needs}
 use Rattle.request.proofs.void_at.Statement.{statement}

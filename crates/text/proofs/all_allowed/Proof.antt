@@ -1,9 +1,9 @@
 use borrow.Author.Needs.{needs}
-use Rattle.text.specs.Line.{allowed}
+use Rattle.text.specs.Line.{allowed, tested}
 use Rattle.whole.specs.Lists.{all}
 use Prim.Native.Nat.{_≤_, _-_}
 use native.Mathlib.Omega.{arith}
-use mathlib.Core.Path.{_≡_, sym, _∙_}
+use mathlib.Core.Path.{_≡_, sym, _∙_, ap}
 use lib.ListN.{length, drop}
 use borrow.Author.Tests.{not-true, not-false}
 use Rattle.whole.proofs.Lists.{all-stop, all-go, all-done}
@@ -30,7 +30,7 @@ returns c =
     let h = c .before .before .before .before in
     let s = h .before .before .args .s .now in
     let i = h .loop .i in
-    all-stop allowed s i 0 (h .loop .inv .1) (search needs) (sym (c .before .is-allowed .ensures) ∙ not-true _ (c .if1 .taken))
+    ap tested (all-stop allowed s i 0 (h .loop .inv .1) (search needs) (sym (c .before .is-allowed .ensures) ∙ not-true _ (c .if1 .taken)))
 
 add-i : tie.Need-add-i Inv-loop μ-loop
 add-i c = search needs
@@ -50,7 +50,7 @@ returns-2 c =
     let h = c .before in
     let s = h .before .before .args .s .now in
     let i = h .loop .i in
-    all-done allowed s i 0 (h .loop .inv .1) (search needs)
+    ap tested (all-done allowed s i 0 (h .loop .inv .1) (search needs))
 
 pub all-allowed-spec : {M : Type 1} → statement M
 all-allowed-spec =

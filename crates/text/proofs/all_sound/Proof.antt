@@ -1,9 +1,10 @@
 use borrow.Author.Needs.{needs}
-use mathlib.Core.Path.{_≡_, sym, _∙_}
+use mathlib.Core.Path.{_≡_, sym, _∙_, ap}
 use native.Mathlib.Omega.{arith}
 use Prim.Native.Nat.{_≤_, _-_}
 use lib.ListN.{length, drop}
 use borrow.Author.Tests.{not-true, not-false}
+use Rattle.text.specs.Line.{tested}
 use Rattle.text.proofs.Runs.{sound, sound-end, sound-other, passes}
 use Rattle.text.proofs.all_sound.Statement.{statement}
 use Rattle.text.proofs.all_sound.Tie as tie
@@ -23,46 +24,41 @@ shared-slice-read-in-run c = search needs
 in-run-requires : tie.Need-in-run-requires Inv-loop μ-loop
 in-run-requires c κs = search needs
 
-run-at-requires : tie.Need-run-at-requires Inv-loop μ-loop
-run-at-requires c κs = search needs
+run-end-requires : tie.Need-run-end-requires Inv-loop μ-loop
+run-end-requires c κs = search needs
+
+run-of-requires : tie.Need-run-of-requires Inv-loop μ-loop
+run-of-requires c κs = search needs
 
 is-sound-requires : tie.Need-is-sound-requires Inv-loop μ-loop
 is-sound-requires c κs = search needs
 
 returns : tie.Need-returns Inv-loop μ-loop
 returns c =
-    let h = c .before .before .before .before .before .before .before in
+    let h = c .before .before .before .before .before .before .before .before in
     let s = h .before .before .args .s .now in
     let i = h .loop .i in
-    let w = passes s i (c .before .before .run-at .result .now) (search needs) (sym (c .before .before .before .before .in-run .ensures) ∙ c .before .before .before .if1 .taken) (c .before .before .run-at .ensures) in
-    sym (w .bad (sym (c .before .is-sound .ensures) ∙ not-true _ (c .if2 .taken))) ∙ h .loop .inv .1
-
-add-i : tie.Need-add-i Inv-loop μ-loop
-add-i c =
-    let h = c .before .before .before .before .before .before .before in
-    let s = h .before .before .args .s .now in
-    let i = h .loop .i in
-    let w = passes s i (c .before .before .run-at .result .now) (search needs) (sym (c .before .before .before .before .in-run .ensures) ∙ c .before .before .before .if1 .taken) (c .before .before .run-at .ensures) in
-    search needs
+    let w = passes s i (c .before .before .before .run-end .result) (c .before .before .run-of .result .now) (search needs) (sym (c .before .before .before .before .before .in-run .ensures) ∙ c .before .before .before .before .if1 .taken) (c .before .before .before .run-end .ensures .0) (c .before .before .run-of .ensures) in
+    ap tested (sym (w .bad (sym (c .before .is-sound .ensures) ∙ not-true _ (c .if2 .taken))) ∙ h .loop .inv .1)
 
 loop-less : tie.Need-loop-less Inv-loop μ-loop
 loop-less c =
-    let h = c .before .before .before .before .before .before .before in
+    let h = c .before .before .before .before .before .before .before .before in
     let s = h .before .before .args .s .now in
     let i = h .loop .i in
-    let w = passes s i (c .before .before .run-at .result .now) (search needs) (sym (c .before .before .before .before .in-run .ensures) ∙ c .before .before .before .if1 .taken) (c .before .before .run-at .ensures) in
+    let w = passes s i (c .before .before .before .run-end .result) (c .before .before .run-of .result .now) (search needs) (sym (c .before .before .before .before .before .in-run .ensures) ∙ c .before .before .before .before .if1 .taken) (c .before .before .before .run-end .ensures .0) (c .before .before .run-of .ensures) in
     search needs
 
 loop-again : tie.Need-loop-again Inv-loop μ-loop
 loop-again c =
-    let h = c .before .before .before .before .before .before .before in
+    let h = c .before .before .before .before .before .before .before .before in
     let s = h .before .before .args .s .now in
     let i = h .loop .i in
-    let w = passes s i (c .before .before .run-at .result .now) (search needs) (sym (c .before .before .before .before .in-run .ensures) ∙ c .before .before .before .if1 .taken) (c .before .before .run-at .ensures) in
-    (omega (arith, w .short), sym (w .good (sym (c .before .is-sound .ensures) ∙ not-false _ (c .if2 .left))) ∙ h .loop .inv .1)
+    let w = passes s i (c .before .before .before .run-end .result) (c .before .before .run-of .result .now) (search needs) (sym (c .before .before .before .before .before .in-run .ensures) ∙ c .before .before .before .before .if1 .taken) (c .before .before .before .run-end .ensures .0) (c .before .before .run-of .ensures) in
+    (omega arith, sym (w .good (sym (c .before .is-sound .ensures) ∙ not-false _ (c .if2 .left))) ∙ h .loop .inv .1)
 
-add-i-2 : tie.Need-add-i-2 Inv-loop μ-loop
-add-i-2 c = search needs
+add-i : tie.Need-add-i Inv-loop μ-loop
+add-i c = search needs
 
 loop-less-2 : tie.Need-loop-less-2 Inv-loop μ-loop
 loop-less-2 c = search needs
@@ -78,7 +74,7 @@ returns-2 : tie.Need-returns-2 Inv-loop μ-loop
 returns-2 c =
     let h = c .before in
     let s = h .before .before .args .s .now in
-    sym (sound-end s (h .loop .i) (search needs)) ∙ h .loop .inv .1
+    ap tested (sym (sound-end s (h .loop .i) (search needs)) ∙ h .loop .inv .1)
 
 pub all-sound-spec : {M : Type 1} → statement M
 all-sound-spec =
@@ -89,13 +85,13 @@ all-sound-spec =
     loop-holds
     shared-slice-read-in-run
     in-run-requires
-    run-at-requires
+    run-end-requires
+    run-of-requires
     is-sound-requires
     returns
-    add-i
     loop-less
     loop-again
-    add-i-2
+    add-i
     loop-less-2
     loop-again-2
     returns-2)

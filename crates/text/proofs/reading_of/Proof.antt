@@ -1,6 +1,5 @@
-use mathlib.Core.Path.{sym, _∙_}
-use borrow.Author.Tests.{not-true, not-false}
-use Rattle.text.proofs.Order.{too-long, bad-byte, not-one-form, bad-number, is-sound}
+use mathlib.Core.Path.{sym}
+use Rattle.text.proofs.Order.{passed, failed, too-long, bad-byte, not-one-form, bad-number, is-sound}
 use borrow.Author.Needs.{needs}
 use Rattle.text.proofs.reading_of.Statement.{statement}
 use Rattle.text.proofs.reading_of.Tie as tie
@@ -11,23 +10,41 @@ returns c = sym (too-long (c .before .before .args .line .now) (c .if1 .taken))
 all-allowed-requires : tie.Need-all-allowed-requires
 all-allowed-requires c κs = search needs
 
+enum-told : tie.Need-enum-told
+enum-told c = search needs
+
+enum-told-2 : tie.Need-enum-told-2
+enum-told-2 c = search needs
+
 returns-2 : tie.Need-returns-2
-returns-2 c = sym (bad-byte (c .before .before .before .before .args .line .now) (c .before .before .if1 .left) (sym (c .before .all-allowed .ensures) ∙ not-true _ (c .if2 .taken)))
+returns-2 c = sym (bad-byte (c .before .before .before .before .before .args .line .now) (c .before .before .before .if1 .left) (failed (c .before .before .all-allowed .ensures) (c .enum-told2 .given .1)))
 
 one-form-requires : tie.Need-one-form-requires
 one-form-requires c κs = search needs
 
+enum-told-3 : tie.Need-enum-told-3
+enum-told-3 c = search needs
+
+enum-told-4 : tie.Need-enum-told-4
+enum-told-4 c = search needs
+
 returns-3 : tie.Need-returns-3
-returns-3 c = sym (not-one-form (c .before .before .before .before .before .before .args .line .now) (c .before .before .before .before .if1 .left) (sym (c .before .before .before .all-allowed .ensures) ∙ not-false _ (c .before .before .if2 .left)) (sym (c .before .one-form .ensures) ∙ not-true _ (c .if3 .taken)))
+returns-3 c = sym (not-one-form (c .before .before .before .before .before .before .before .before .args .line .now) (c .before .before .before .before .before .before .if1 .left) (passed (c .before .before .before .before .before .all-allowed .ensures) (c .before .before .before .enum-told .given .1)) (failed (c .before .before .one-form .ensures) (c .enum-told4 .given .1)))
 
 all-sound-requires : tie.Need-all-sound-requires
 all-sound-requires c κs = search needs
 
+enum-told-5 : tie.Need-enum-told-5
+enum-told-5 c = search needs
+
+enum-told-6 : tie.Need-enum-told-6
+enum-told-6 c = search needs
+
 returns-4 : tie.Need-returns-4
-returns-4 c = sym (bad-number (c .before .before .before .before .before .before .before .before .args .line .now) (c .before .before .before .before .before .before .if1 .left) (sym (c .before .before .before .before .before .all-allowed .ensures) ∙ not-false _ (c .before .before .before .before .if2 .left)) (sym (c .before .before .before .one-form .ensures) ∙ not-false _ (c .before .before .if3 .left)) (sym (c .before .all-sound .ensures) ∙ not-true _ (c .if4 .taken)))
+returns-4 c = sym (bad-number (c .before .before .before .before .before .before .before .before .before .before .before .args .line .now) (c .before .before .before .before .before .before .before .before .before .if1 .left) (passed (c .before .before .before .before .before .before .before .before .all-allowed .ensures) (c .before .before .before .before .before .before .enum-told .given .1)) (passed (c .before .before .before .before .before .one-form .ensures) (c .before .before .before .enum-told3 .given .1)) (failed (c .before .before .all-sound .ensures) (c .enum-told6 .given .1)))
 
 returns-5 : tie.Need-returns-5
-returns-5 c = sym (is-sound (c .before .before .before .before .before .before .before .before .args .line .now) (c .before .before .before .before .before .before .if1 .left) (sym (c .before .before .before .before .before .all-allowed .ensures) ∙ not-false _ (c .before .before .before .before .if2 .left)) (sym (c .before .before .before .one-form .ensures) ∙ not-false _ (c .before .before .if3 .left)) (sym (c .before .all-sound .ensures) ∙ not-false _ (c .if4 .left)))
+returns-5 c = sym (is-sound (c .before .before .before .before .before .before .before .before .before .before .before .args .line .now) (c .before .before .before .before .before .before .before .before .before .if1 .left) (passed (c .before .before .before .before .before .before .before .before .all-allowed .ensures) (c .before .before .before .before .before .before .enum-told .given .1)) (passed (c .before .before .before .before .before .one-form .ensures) (c .before .before .before .enum-told3 .given .1)) (passed (c .before .before .all-sound .ensures) (c .enum-told5 .given .1)))
 
 pub reading-of-spec : {M : Type 1} → statement M
 reading-of-spec =
@@ -35,9 +52,15 @@ reading-of-spec =
     (tie.spec
     returns
     all-allowed-requires
+    enum-told
+    enum-told-2
     returns-2
     one-form-requires
+    enum-told-3
+    enum-told-4
     returns-3
     all-sound-requires
+    enum-told-5
+    enum-told-6
     returns-4
     returns-5)

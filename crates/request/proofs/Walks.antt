@@ -1,11 +1,11 @@
 -- Laws of the grammar, as loops use them: what was read so far, and the reading of what is left.
 use mathlib.Core.Path.{_≡_, refl, sym, _∙_, ap}
-use mathlib.Core.List.{List, [], _∷_, _++_, map}
+use mathlib.Core.List.{List, [], _∷_, _++_, map, append-nil}
 use Prim.Native.Nat.{ℕ, zero, suc, _+_, _-_, _≤_, _<_}
 use native.Mathlib.Omega.{arith}
 use native.Mathlib.Numerals.{add-one}
 use lib.ListN.{length, getD, take, drop, set, replicate, take-append-drop, length-set, length-replicate, List·getD-map}
-use lib.Seq.{take-suc-set, drop-set-lt, drop-drop, length-take-le, getD-take}
+use lib.Seq.{append-snoc, take-suc-set, drop-set-lt, drop-drop, length-take-le, getD-take}
 use Rattle.text.specs.Token.{Token, tokens}
 use Rattle.record.specs.Filler.{padded}
 use Rattle.request.specs.declared.Place.{Place}
@@ -19,20 +19,12 @@ use Rattle.request.specs.Places.{Ends, Fills}
 abbrev pub ahead : {A : Type 0} → List A → Parsed (List A) → Parsed (List A)
 ahead xs p = carry (λ ys. xs ++ ys) p
 
-append-nil : {A : Type 0} (xs : List A) → xs ++ [] ≡ xs
-append-nil [] = refl
-append-nil (x ∷ xs) = ap (λ ys. x ∷ ys) (append-nil xs)
-
-append-one : {A : Type 0} (xs : List A) (x : A) (ys : List A) → (xs ++ x ∷ []) ++ ys ≡ xs ++ x ∷ ys
-append-one [] x ys = refl
-append-one (y ∷ xs) x ys = ap (λ zs. y ∷ zs) (append-one xs x ys)
-
 pub ahead-none : {A : Type 0} (p : Parsed (List A)) → ahead [] p ≡ p
 ahead-none (got ys ts) = refl
 ahead-none none = refl
 
 pub ahead-one : {A : Type 0} (xs : List A) (x : A) (p : Parsed (List A)) → ahead (xs ++ x ∷ []) p ≡ ahead xs (ahead (x ∷ []) p)
-ahead-one xs x (got ys ts) = ap (λ zs. got zs ts) (append-one xs x ys)
+ahead-one xs x (got ys ts) = ap (λ zs. got zs ts) (append-snoc xs x ys)
 ahead-one xs x none = refl
 
 pub ahead-end : {A : Type 0} (xs : List A) (ts : List Token) → ahead xs (got [] ts) ≡ got xs ts
