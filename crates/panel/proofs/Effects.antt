@@ -16,7 +16,7 @@ use Rattle.record.specs.Limits.{shipLimits, loadLimits, holdLimits, placeLimits
 use Rattle.record.specs.Columns.{held, columnAnswer, addedCode, withColumn}
 use Rattle.grain.specs.Sum.{holdFits}
 use Rattle.panel.specs.declared.Condition.{Condition}
-use Rattle.panel.specs.declared.Change.{Change}
+use Rattle.panel.specs.Operations.{Change}
 use Rattle.panel.specs.declared.Judged.{Judged}
 use Rattle.panel.specs.declared.Judged.the-variants.{Refused, Given}
 use Rattle.panel.specs.Condition.{withShip, withLoad, withColumns, withHold, holdAt, isHeld}

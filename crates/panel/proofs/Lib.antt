@@ -13,3 +13,4 @@ pub mod Sequence
 pub mod Shown
 pub mod Taking
 pub mod Weighing
+pub mod Answers

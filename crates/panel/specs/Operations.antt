@@ -13,8 +13,12 @@ use Rattle.record.specs.Columns.{held, columnAnswer, addedCode, withColumn}
 use Rattle.record.specs.Filler.{noHold}
 use Rattle.grain.specs.Sum.{holdFits}
 use Rattle.panel.specs.declared.Condition.{Condition}
-use Rattle.panel.specs.declared.Change.{Change}
 use Rattle.panel.specs.Condition.{withShip, withLoad, withColumns, withHold, holdAt, isHeld}
+
+-- an operation's code, and the condition after it
+pub record Change : Type 0 where
+  pub code : ℕ
+  pub after : Condition
 
 -- taken with 00; refused with a code
 abbrev pub taken : Condition → Change

@@ -21,7 +21,7 @@ use Rattle.reply.specs.Written.{over}
 use Rattle.reply.specs.Replies.{answerReply, refusalReply, verdictReply}
 use Rattle.panel.specs.declared.Condition.{Condition}
 use Rattle.panel.specs.Condition.{empty}
-use Rattle.panel.specs.declared.Change.{Change}
+use Rattle.panel.specs.Operations.{Change}
 use Rattle.panel.specs.declared.Stepped.{Stepped}
 use Rattle.panel.specs.declared.Judged.{Judged}
 use Rattle.panel.specs.declared.Judged.the-variants.{Refused, Given}

@@ -21,9 +21,12 @@ ghost use lib.ListN.{length};
 ghost use lib.Dec.{leb};
 ghost use Rattle.record.specs.Columns.{held, inOrder};
 ghost use Rattle.stability.specs.Verdict.{judgementCode};
-ghost use Rattle.panel.specs.Condition.{empty, withShip, withLoad, withColumns, withHold, holdAt, isHeld};
-ghost use Rattle.panel.specs.Operations.{shipOperation, loadOperation, columnOperation, holdOperation, dropOperation};
-ghost use Rattle.panel.specs.Step.{answered, verdictGiven, outcomeOf, stepOf, Steps};
+ghost use Rattle.panel.specs.Condition.{empty, holdAt, isHeld};
+ghost use Rattle.record.specs.Columns.{addedCode};
+ghost use Rattle.grain.specs.Sum.{weighedCode};
+ghost use Rattle.text.specs.Line.{readingCode};
+ghost use Rattle.panel.specs.Operations.{taken, refusedWith, shipOperation, loadOperation, columnOperation, holdOperation, dropOperation};
+ghost use Rattle.panel.specs.Step.{answered, verdictGiven, stepOf, Steps};
 ghost use Rattle.panel.specs.Judge.{judgedOf, judgedAt, placeWeight, weightsOf, Between};
 
 // One loading condition of one ship. A place of `holds` with no parts holds no hold.
@@ -34,12 +37,6 @@ pub struct Condition {
     pub load: Load,
     pub columns: Columns,
     pub holds: [Hold; 16],
-}
-
-// An operation's code, and the condition after it.
-pub struct Change {
-    pub code: u8,
-    pub after: Condition,
 }
 
 // The weight moments together, or that judge refuses them.
@@ -84,43 +81,6 @@ pub fn empty_condition() -> Condition
     }
 }
 
-fn with_ship(c: Condition, s: Ship) -> Condition
-    ensures { λ r. ⌜ r ≡ withShip c s ⌝ }
-{
-    let mut t = c;
-    t.shipped = true;
-    t.ship = s;
-    t
-}
-
-fn with_load(c: Condition, l: Load) -> Condition
-    ensures { λ r. ⌜ r ≡ withLoad c l ⌝ }
-{
-    let mut t = c;
-    t.loaded = true;
-    t.load = l;
-    t
-}
-
-fn with_columns(c: Condition, ks: Columns) -> Condition
-    ensures { λ r. ⌜ r ≡ withColumns c ks ⌝ }
-{
-    let mut t = c;
-    t.columns = ks;
-    t
-}
-
-// Hold n stands in the place n - 1.
-fn with_hold(c: Condition, n: u32, h: Hold) -> Condition
-    requires { ⌜ (1 ≤ n) × (n ≤ 16) ⌝ }
-    ensures { λ r. ⌜ r ≡ withHold c n h ⌝ }
-{
-    let at = (n - 1) as usize;
-    let mut t = c;
-    t.holds[at] = h;
-    t
-}
-
 // Whether there is a hold n.
 fn is_held(c: Condition, n: u32) -> bool
     requires { ⌜ (1 ≤ n) × (n ≤ 16) ⌝ }
@@ -130,80 +90,6 @@ fn is_held(c: Condition, n: u32) -> bool
     let h = c.holds[at];
     let head = h.head;
     0 < head.count
-}
-
-// ---- the operations
-
-fn ship_operation(c: Condition, s: Ship) -> Change
-    ensures { λ r. ⌜ r ≡ shipOperation c s ⌝ }
-{
-    if record::ship_limits(s) {
-        return Change {
-            code: 0,
-            after: with_ship(c, s),
-        };
-    }
-    Change { code: 20, after: c }
-}
-
-fn load_operation(c: Condition, l: Load) -> Change
-    ensures { λ r. ⌜ r ≡ loadOperation c l ⌝ }
-{
-    if record::load_limits(l) {
-        return Change {
-            code: 0,
-            after: with_load(c, l),
-        };
-    }
-    Change { code: 20, after: c }
-}
-
-fn column_operation(c: Condition, k: Column) -> Change
-    ensures { λ r. ⌜ r ≡ columnOperation c k ⌝ }
-{
-    let ks = c.columns;
-    let answer = record::column_answer(ks, k);
-    match answer {
-        Added::Taken => Change {
-            code: 0,
-            after: with_columns(c, record::with_column(ks, k)),
-        },
-        Added::Limits => Change { code: 20, after: c },
-        Added::Full => Change { code: 23, after: c },
-        Added::NotAbove => Change { code: 22, after: c },
-    }
-}
-
-fn hold_operation(c: Condition, n: u32, h: Hold) -> Change
-    ensures { λ r. ⌜ r ≡ holdOperation c n h ⌝ }
-{
-    if !record::place_limits(n) {
-        return Change { code: 20, after: c };
-    }
-    let w = grain::weigh(h);
-    match w {
-        Weighed::Weight(_) => Change {
-            code: 0,
-            after: with_hold(c, n, h),
-        },
-        Weighed::Limits => Change { code: 20, after: c },
-        Weighed::NoFit => Change { code: 21, after: c },
-    }
-}
-
-fn drop_operation(c: Condition, n: u32) -> Change
-    ensures { λ r. ⌜ r ≡ dropOperation c n ⌝ }
-{
-    if !record::place_limits(n) {
-        return Change { code: 20, after: c };
-    }
-    if is_held(c, n) {
-        return Change {
-            code: 0,
-            after: with_hold(c, n, record::no_hold()),
-        };
-    }
-    Change { code: 24, after: c }
 }
 
 // ---- judge
@@ -328,17 +214,157 @@ fn judge(c: Condition) -> Judged
     judge_between(c, i)
 }
 
-// ---- the step of one line
+// ---- the operations, each with its reply
+//
+// The condition is large, and is copied wherever a function takes or gives it: each operation takes it once and gives it once.
 
-// Every operation but judge replies `(answer CC)`.
-fn answer(ch: Change, out: &mut [u8]) -> Stepped
+// A line that is turned down leaves the condition as it was.
+fn refuse(c: Condition, code: u8, out: &mut [u8]) -> Stepped
     requires { ⌜ 96 ≤ length (now out) ⌝ }
-    ensures { λ r. ⌜ Steps (answered ch) r (now (out .entry)) (now (out .exit)) ⌝ }
+    ensures { λ r. ⌜ Steps (answered (refusedWith code c)) r (now (out .entry)) (now (out .exit)) ⌝ }
 {
-    let code = ch.code;
     let len = reply::answer(out, code);
-    let after = ch.after;
-    Stepped { code, len, after }
+    Stepped {
+        code,
+        len,
+        after: c,
+    }
+}
+
+fn take_ship(c: Condition, s: Ship, out: &mut [u8]) -> Stepped
+    requires { ⌜ 96 ≤ length (now out) ⌝ }
+    ensures { λ r. ⌜ Steps (answered (shipOperation c s)) r (now (out .entry)) (now (out .exit)) ⌝ }
+{
+    if !record::ship_limits(s) {
+        return refuse(c, 20, out);
+    }
+    let len = reply::answer(out, 0);
+    let mut after = c;
+    after.shipped = true;
+    after.ship = s;
+    Stepped {
+        code: 0,
+        len,
+        after,
+    }
+}
+
+fn take_load(c: Condition, l: Load, out: &mut [u8]) -> Stepped
+    requires { ⌜ 96 ≤ length (now out) ⌝ }
+    ensures { λ r. ⌜ Steps (answered (loadOperation c l)) r (now (out .entry)) (now (out .exit)) ⌝ }
+{
+    if !record::load_limits(l) {
+        return refuse(c, 20, out);
+    }
+    let len = reply::answer(out, 0);
+    let mut after = c;
+    after.loaded = true;
+    after.load = l;
+    Stepped {
+        code: 0,
+        len,
+        after,
+    }
+}
+
+// The paper's code for each answer of a list of columns.
+fn added_code(a: Added) -> u8
+    ensures { λ r. ⌜ r ≡ addedCode a ⌝ }
+{
+    match a {
+        Added::Taken => 0,
+        Added::Limits => 20,
+        Added::Full => 23,
+        Added::NotAbove => 22,
+    }
+}
+
+fn take_column(c: Condition, k: Column, out: &mut [u8]) -> Stepped
+    requires { ⌜ 96 ≤ length (now out) ⌝ }
+    ensures { λ r. ⌜ Steps (answered (columnOperation c k)) r (now (out .entry)) (now (out .exit)) ⌝ }
+{
+    let ks = c.columns;
+    let code = added_code(record::column_answer(ks, k));
+    if code != 0 {
+        return refuse(c, code, out);
+    }
+    let len = reply::answer(out, 0);
+    let columns = record::with_column(ks, k);
+    let mut after = c;
+    after.columns = columns;
+    Stepped {
+        code: 0,
+        len,
+        after,
+    }
+}
+
+// The paper's code for each answer of a hold.
+fn weighed_code(w: Weighed) -> u8
+    ensures { λ r. ⌜ r ≡ weighedCode w ⌝ }
+{
+    match w {
+        Weighed::Weight(_) => 0,
+        Weighed::Limits => 20,
+        Weighed::NoFit => 21,
+    }
+}
+
+fn take_hold(c: Condition, n: u32, h: Hold, out: &mut [u8]) -> Stepped
+    requires { ⌜ 96 ≤ length (now out) ⌝ }
+    ensures { λ r. ⌜ Steps (answered (holdOperation c n h)) r (now (out .entry)) (now (out .exit)) ⌝ }
+{
+    if !record::place_limits(n) {
+        return refuse(c, 20, out);
+    }
+    let code = weighed_code(grain::weigh(h));
+    if code != 0 {
+        return refuse(c, code, out);
+    }
+    let len = reply::answer(out, 0);
+    let at = (n - 1) as usize;
+    let mut after = c;
+    after.holds[at] = h;
+    Stepped {
+        code: 0,
+        len,
+        after,
+    }
+}
+
+fn take_drop(c: Condition, n: u32, out: &mut [u8]) -> Stepped
+    requires { ⌜ 96 ≤ length (now out) ⌝ }
+    ensures { λ r. ⌜ Steps (answered (dropOperation c n)) r (now (out .entry)) (now (out .exit)) ⌝ }
+{
+    if !record::place_limits(n) {
+        return refuse(c, 20, out);
+    }
+    if !is_held(c, n) {
+        return refuse(c, 24, out);
+    }
+    let len = reply::answer(out, 0);
+    let at = (n - 1) as usize;
+    let none = record::no_hold();
+    let mut after = c;
+    after.holds[at] = none;
+    Stepped {
+        code: 0,
+        len,
+        after,
+    }
+}
+
+fn take_clear(out: &mut [u8]) -> Stepped
+    requires { ⌜ 96 ≤ length (now out) ⌝ }
+    ensures { λ r. ⌜ Steps (answered (taken empty)) r (now (out .entry)) (now (out .exit)) ⌝ }
+{
+    let len = reply::answer(out, 0);
+    let after = empty_condition();
+    Stepped {
+        code: 0,
+        len,
+        after,
+    }
 }
 
 fn code_of(j: Judgement) -> u8
@@ -381,30 +407,16 @@ fn give_verdict(c: Condition, out: &mut [u8]) -> Stepped
     }
 }
 
-// The operation that a line asks for; 14 where it has no shape.
-fn operate(c: Condition, r: Request, out: &mut [u8]) -> Stepped
-    requires { ⌜ 96 ≤ length (now out) ⌝ }
-    ensures { λ t. ⌜ Steps (outcomeOf c r) t (now (out .entry)) (now (out .exit)) ⌝ }
+// The paper's code for what the tests of a whole line find.
+fn reading_code(t: Reading) -> u8
+    ensures { λ r. ⌜ r ≡ readingCode t ⌝ }
 {
-    let kind = r.kind;
-    match kind {
-        Kind::ShipLine(s) => answer(ship_operation(c, s), out),
-        Kind::ColumnLine => {
-            let k = r.column;
-            answer(column_operation(c, k), out)
-        }
-        Kind::LoadLine(l) => answer(load_operation(c, l), out),
-        Kind::HoldLine(n) => {
-            let h = r.hold;
-            answer(hold_operation(c, n, h), out)
-        }
-        Kind::DropLine(n) => answer(drop_operation(c, n), out),
-        Kind::JudgeLine => give_verdict(c, out),
-        Kind::ClearLine => {
-            let after = empty_condition();
-            answer(Change { code: 0, after }, out)
-        }
-        Kind::NoShape => answer(Change { code: 14, after: c }, out),
+    match t {
+        Reading::Sound => 0,
+        Reading::TooLong => 10,
+        Reading::BadByte => 11,
+        Reading::NotOneForm => 12,
+        Reading::BadNumber => 13,
     }
 }
 
@@ -419,15 +431,22 @@ pub fn step(c: Condition, line: &[u8], out: &mut [u8]) -> Stepped
             after: c,
         };
     }
-    let t = text::reading_of(line);
-    match t {
-        Reading::Sound => {
-            let r = request::request_of(line);
-            operate(c, r, out)
-        }
-        Reading::TooLong => answer(Change { code: 10, after: c }, out),
-        Reading::BadByte => answer(Change { code: 11, after: c }, out),
-        Reading::NotOneForm => answer(Change { code: 12, after: c }, out),
-        Reading::BadNumber => answer(Change { code: 13, after: c }, out),
+    let code = reading_code(text::reading_of(line));
+    if code != 0 {
+        return refuse(c, code, out);
+    }
+    let r = request::request_of(line);
+    let h = r.hold;
+    let k = r.column;
+    let kind = r.kind;
+    match kind {
+        Kind::ShipLine(s) => take_ship(c, s, out),
+        Kind::ColumnLine => take_column(c, k, out),
+        Kind::LoadLine(l) => take_load(c, l, out),
+        Kind::HoldLine(n) => take_hold(c, n, h, out),
+        Kind::DropLine(n) => take_drop(c, n, out),
+        Kind::JudgeLine => give_verdict(c, out),
+        Kind::ClearLine => take_clear(out),
+        Kind::NoShape => refuse(c, 14, out),
     }
 }
