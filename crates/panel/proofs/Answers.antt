@@ -14,8 +14,7 @@ use Rattle.text.specs.declared.Reading.{Reading}
 use Rattle.text.specs.declared.Reading.the-variants.{Sound, TooLong, BadByte, NotOneForm, BadNumber}
 use Rattle.text.specs.Line.{readingCode}
 use Rattle.panel.specs.declared.Condition.{Condition}
-use Rattle.panel.specs.Operations.{Change}
-use Rattle.panel.specs.Operations.{refusedWith, columnChange}
+use Rattle.panel.specs.Operations.{Change, refusedWith, columnChange}
 use Rattle.panel.specs.Step.{answered, outcomeAfter}
 use Rattle.panel.proofs.Taking.{chosen}
 
@@ -25,12 +24,6 @@ column-refused c k Taken n e p = absurd (p e)
 column-refused c k Limits n e p = rw e
 column-refused c k Full n e p = rw e
 column-refused c k NotAbove n e p = rw e
-
-pub column-passed : (a : Added) → addedCode a ≡ 0 → a ≡ Taken
-column-passed Taken e = refl
-column-passed Limits e = absurd (omega arith)
-column-passed Full e = absurd (omega arith)
-column-passed NotAbove e = absurd (omega arith)
 
 -- a hold
 pub hold-refused : (c : Condition) (t : Change) (r : Weighed) (n : ℕ) → n ≡ weighedCode r → (n ≡ 0 → ⊥) → chosen r t (refusedWith 21 c) (refusedWith 20 c) ≡ refusedWith n c

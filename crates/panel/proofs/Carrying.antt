@@ -1,15 +1,16 @@
 -- A request as it is carried has the outcome of the request as it was read.
-use mathlib.Core.Path.{_≡_, refl, sym, _∙_}
-use mathlib.Core.Bool.{Bool, true, false, cond, _&&_}
+use mathlib.Core.Path.{_≡_, refl}
+use mathlib.Core.Bool.{Bool, true, false}
 use mathlib.Core.List.{List}
 use Prim.Native.Nat.{ℕ}
+use Rattle.whole.proofs.Lists.{and-false}
 use Rattle.text.specs.Token.{Token}
 use Rattle.record.specs.declared.Ship.{Ship}
 use Rattle.record.specs.declared.Load.{Load}
 use Rattle.record.specs.declared.Column.{Column}
 use Rattle.record.specs.declared.Hold.{Hold}
 use Rattle.record.specs.Limits.{shipLimits, loadLimits, columnLimits, holdLimits, placeLimits}
-use Rattle.record.specs.Columns.{held, columnAnswer}
+use Rattle.record.specs.Columns.{columnAnswer}
 use Rattle.request.specs.declared.Kind.{Kind}
 use Rattle.request.specs.declared.Kind.the-variants.{ShipLine, ColumnLine, LoadLine, HoldLine, DropLine, JudgeLine, ClearLine, NoShape}
 use Rattle.request.specs.Shape.{requestOf}
@@ -18,11 +19,7 @@ use Rattle.request.proofs.Kept.{same-ship, same-load, same-column, same-hold, k
 use Rattle.request.proofs.Tidy.{kept-hold}
 use Rattle.panel.specs.declared.Condition.{Condition}
 use Rattle.panel.specs.Operations.{shipOperation, loadOperation, columnOperation, holdOperation}
-use Rattle.panel.specs.Step.{outcomeBy, outcomeOf, answered}
-
-and-false : (x : Bool) → (x && false) ≡ false
-and-false true = refl
-and-false false = refl
+use Rattle.panel.specs.Step.{outcomeBy, outcomeOf}
 
 module _ (c : Condition) where
   ship-by : (s : Ship) (x : Bool) → shipLimits s ≡ x → shipOperation c (carriedShip s) ≡ shipOperation c s

@@ -20,10 +20,6 @@ unfolding inOrder
 out-of-limits k [] e = e
 out-of-limits k (m ∷ ks) e = rw e
 
-and-false : (x : Bool) → (x && false) ≡ false
-and-false true = refl
-and-false false = refl
-
 -- the order of what is left of the columns is that of all of them, as far as the loop has come
 module _ (l : List Column) (i : ℕ) (d : Column) (left : inOrder (drop i l) ≡ inOrder l) where
   pub order-none : length l ≤ i → true ≡ inOrder l

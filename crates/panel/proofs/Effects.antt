@@ -16,11 +16,10 @@ use Rattle.record.specs.Limits.{shipLimits, loadLimits, holdLimits, placeLimits
 use Rattle.record.specs.Columns.{held, columnAnswer, addedCode, withColumn}
 use Rattle.grain.specs.Sum.{holdFits}
 use Rattle.panel.specs.declared.Condition.{Condition}
-use Rattle.panel.specs.Operations.{Change}
 use Rattle.panel.specs.declared.Judged.{Judged}
 use Rattle.panel.specs.declared.Judged.the-variants.{Refused, Given}
 use Rattle.panel.specs.Condition.{withShip, withLoad, withColumns, withHold, holdAt, isHeld}
-use Rattle.panel.specs.Operations.{taken, refusedWith, shipOperation, loadOperation, columnChange, columnOperation, holdOperation, dropOperation}
+use Rattle.panel.specs.Operations.{Change, taken, refusedWith, shipOperation, loadOperation, columnChange, columnOperation, holdOperation, dropOperation}
 use Rattle.panel.specs.Step.{verdictGiven}
 
 -- a test that answers with 00 passed: the other answer has another code
@@ -38,7 +37,7 @@ decodes Limits = refl
 decodes Full = refl
 decodes NotAbove = refl
 
-same-added : (a b : Added) → addedCode a ≡ addedCode b → a ≡ b
+pub same-added : (a b : Added) → addedCode a ≡ addedCode b → a ≡ b
 same-added a b e = sym (decodes a) ∙ ap decoded e ∙ decodes b
 
 -- the tests of a hold

@@ -1,8 +1,7 @@
 -- The condition that the panel keeps, and how a record is put into it.
-use mathlib.Core.Bool.{Bool, true, false, not}
-use mathlib.Core.List.{List}
+use mathlib.Core.Bool.{Bool, true, false}
 use Prim.Native.Nat.{ℕ, _-_}
-use lib.Dec.{eqb, ltb}
+use lib.Dec.{ltb}
 use lib.ListN.{getD, set, replicate}
 use Rattle.record.specs.declared.Rule.the-variants.{New}
 use Rattle.record.specs.declared.Ship.{Ship}

@@ -9,7 +9,6 @@ use lib.Dec.{eqb}
 use lib.ListN.{length, getD}
 use Rattle.record.specs.declared.Mode.{Mode}
 use Rattle.record.specs.declared.Mode.the-variants.{Trimmed, Voided, Partial}
-use Rattle.record.specs.declared.Hold.{Hold}
 use Rattle.record.specs.declared.Ship.{Ship}
 use Rattle.record.specs.declared.Load.{Load}
 use Rattle.record.specs.Limits.{columnLimits, cellsOf, partsOf}
@@ -32,7 +31,7 @@ use Rattle.panel.specs.declared.Condition.{Condition}
 use Rattle.panel.specs.declared.Judged.the-variants.{Given}
 use Rattle.panel.specs.Condition.{empty, holdAt, isHeld}
 use Rattle.panel.specs.Judge.{weight, basisAt}
-use Rattle.panel.specs.Step.{Outcome, verdictGiven, stepOf, Sent, conditionAfter, outcomes}
+use Rattle.panel.specs.Step.{verdictGiven, stepOf, Sent, conditionAfter, outcomes}
 use Rattle.panel.specs.Within.{Within, Complete}
 
 -- a line that passes the tests 10 to 13, and its request

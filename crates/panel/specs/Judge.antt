@@ -2,7 +2,7 @@
 -- about, the paper leaves the answer free: such a ship or load counts as none (30, 32), such columns as too few (31), and a
 -- hold that is outside its limits or does not fit as too much weight (34).
 use mathlib.Core.Path.{_≡_}
-use mathlib.Core.Bool.{Bool, true, false, cond, not, _&&_, _||_}
+use mathlib.Core.Bool.{Bool, true, cond, not, _&&_, _||_}
 use mathlib.Core.List.{List}
 use Prim.Native.Nat.{ℕ, suc}
 use lib.Dec.{leb}
@@ -15,7 +15,6 @@ use Rattle.grain.specs.Sum.{holdFits, weightMoment, totalWeight}
 use Rattle.stability.specs.declared.Basis.{Basis}
 use Rattle.stability.specs.declared.Around.{Around}
 use Rattle.stability.specs.declared.Around.the-variants.{At, Outside}
-use Rattle.stability.specs.declared.Verdict.{Verdict}
 use Rattle.stability.specs.Arms.{columnsAround}
 use Rattle.stability.specs.Verdict.{verdictOf}
 use Rattle.panel.specs.declared.Condition.{Condition}

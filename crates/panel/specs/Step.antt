@@ -1,12 +1,11 @@
 -- Document 01, Every line: what a line and a lent buffer's length give: code, reply and the condition after.
 use mathlib.Core.Path.{_≡_}
-use mathlib.Core.Bool.{Bool, cond}
+use mathlib.Core.Bool.{cond}
 use mathlib.Core.List.{List, [], _∷_}
 use Prim.Native.Nat.{ℕ}
 use lib.Dec.{ltb}
 use Rattle.record.specs.declared.Column.{Column}
 use Rattle.record.specs.declared.Hold.{Hold}
-use Rattle.stability.specs.declared.Verdict.{Verdict}
 use Rattle.stability.specs.Verdict.{judgementCode}
 use Rattle.text.specs.declared.Reading.{Reading}
 use Rattle.text.specs.declared.Reading.the-variants.{Sound, TooLong, BadByte, NotOneForm, BadNumber}
@@ -21,12 +20,11 @@ use Rattle.reply.specs.Written.{over}
 use Rattle.reply.specs.Replies.{answerReply, refusalReply, verdictReply}
 use Rattle.panel.specs.declared.Condition.{Condition}
 use Rattle.panel.specs.Condition.{empty}
-use Rattle.panel.specs.Operations.{Change}
 use Rattle.panel.specs.declared.Stepped.{Stepped}
 use Rattle.panel.specs.declared.Judged.{Judged}
 use Rattle.panel.specs.declared.Judged.the-variants.{Refused, Given}
 use Rattle.panel.specs.Judge.{judgedOf}
-use Rattle.panel.specs.Operations.{taken, refusedWith, shipOperation, loadOperation, columnOperation, holdOperation, dropOperation}
+use Rattle.panel.specs.Operations.{Change, taken, refusedWith, shipOperation, loadOperation, columnOperation, holdOperation, dropOperation}
 
 pub record Outcome : Type 0 where
   pub code : ℕ

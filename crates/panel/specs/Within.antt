@@ -1,12 +1,11 @@
 -- Document 01: a condition that is within its limits, and one that is complete.
 use mathlib.Core.Path.{_≡_}
-use mathlib.Core.Bool.{Bool, true, false}
+use mathlib.Core.Bool.{true}
 use mathlib.Core.List.{List, [], _∷_}
 use Prim.Native.Nat.{ℕ, _+_, _-_, _≤_, _<_}
 use lib.ListN.{length, getD}
 use Rattle.record.specs.declared.Column.{Column}
 use Rattle.record.specs.declared.Part.{Part}
-use Rattle.record.specs.declared.Hold.{Hold}
 use Rattle.record.specs.Columns.{held, noColumn}
 use Rattle.record.specs.Filler.{noHold}
 use Rattle.panel.specs.declared.Condition.{Condition}

@@ -5,12 +5,11 @@ use mathlib.Core.List.{List, [], _∷_, _++_, append-assoc, append-nil}
 use Prim.Native.Nat.{ℕ, zero, suc, _+_, _-_, _/_, _%_, _^_, _≤_, _<_}
 use native.Mathlib.Omega.{arith}
 use native.Mathlib.Numerals.{add-one}
-use lib.Dec.{ltb}
+use lib.Dec.{ltb, T}
 use lib.ListN.{length, getD, set, take, drop, length-append, length-drop, drop-of-length-le}
 use lib.Seq.{drop-cons, take-suc, set-at, append-snoc, drop-drop, take-at, drop-at, length-take-le, take-all, take-append-add, drop-append-add}
 use borrow.Author.Tests.{lt-ltb, le-ltb, ltb-true}
 use native.Mathlib.Nat.{pow-suc}
-use lib.Dec.{T}
 use lib.Signed.{ltZ}
 use lib.IntN.{ℤ, pos, negsuc}
 use mir.Syntax.{w64}
@@ -24,10 +23,6 @@ use Rattle.reply.specs.Replies.{tail, codedReply, answerReply, refusalRe
 pub over-none : (l : List ℕ) → over [] l ≡ l
 unfolding over
 over-none l = refl
-
-pub length-over : (w l : List ℕ) → length w ≤ length l → length (over w l) ≡ length l
-unfolding over
-length-over w l p = simp (length-append, length-drop) (omega arith)
 
 -- one byte more
 pub over-snoc : (w l : List ℕ) (n x : ℕ) → length w ≡ n → n < length l → set (over w l) n x ≡ over (w ++ x ∷ []) l

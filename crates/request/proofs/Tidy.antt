@@ -2,8 +2,8 @@
 -- within its limits; and its number of parts.
 use mathlib.Core.Path.{_≡_, refl, sym, _∙_}
 use mathlib.Core.Bool.{Bool, true}
-use mathlib.Core.List.{List, [], _∷_, _++_, map, map-map, map-id}
-use Prim.Native.Nat.{ℕ, zero, suc, _-_, _≤_}
+use mathlib.Core.List.{List, [], _∷_, map, map-map, map-id}
+use Prim.Native.Nat.{ℕ, _-_, _≤_}
 use native.Mathlib.Omega.{arith}
 use lib.ListN.{length, take, replicate, length-map}
 use lib.Seq.{take-at}
@@ -22,23 +22,14 @@ use Rattle.request.specs.declared.Kind.the-variants.{HoldLine}
 use Rattle.request.specs.declared.Request.{Request}
 use Rattle.request.specs.Shape.{sectionRecord, slackRecord, holdRecord, holdRequest, part?, requestOf}
 use Rattle.request.specs.Carried.{carriedCell, carriedSlot, carriedPart, carriedHold}
+use Rattle.request.proofs.Records.{map-padded}
 use Rattle.request.proofs.Yields.{Yields, Each, Several}
 use Rattle.request.proofs.Forms.{part-yields, request-has}
 use Rattle.request.proofs.Kept.{kept-within, kept-more, kept-section, kept-slack}
 
 -- ---- an array keeps its fillers if the filler is kept
-map-append : {A B : Type 0} (g : A → B) (xs ys : List A) → map g (xs ++ ys) ≡ map g xs ++ map g ys
-map-append g [] ys = refl
-map-append g (x ∷ xs) ys = rw (map-append g xs ys)
-
-module _ {A : Type 0} (g : A → A) (d : A) (same : g d ≡ d) where
-  kept-fillers : (n : ℕ) → map g (replicate n d) ≡ replicate n d
-  kept-fillers zero = refl
-  kept-fillers (suc n) = rw (same, kept-fillers n)
-
-  pub kept-padded : (n : ℕ) (l : List A) → map g l ≡ l → map g (padded n d l) ≡ padded n d l
-  unfolding padded
-  kept-padded n l e = map-append g l (replicate (n - length l) d) ∙ rw (e, kept-fillers (n - length l))
+pub kept-padded : {A : Type 0} (g : A → A) (d : A) → g d ≡ d → (n : ℕ) (l : List A) → map g l ≡ l → map g (padded n d l) ≡ padded n d l
+kept-padded g d same n l e = map-padded g n d l ∙ rw (same, e)
 
 pub padded-front : {A : Type 0} (n : ℕ) (d : A) (l : List A) (k : ℕ) → length l ≡ k → take k (padded n d l) ≡ l
 unfolding padded
@@ -60,25 +51,25 @@ section-cells v cs =
 kept-slots : (cs : List Cell) → map carriedCell cs ≡ cs → map carriedSlot (map inSlot cs) ≡ map inSlot cs
 kept-slots cs e = map-map carriedSlot inSlot cs ∙ sym (map-map inSlot carriedCell cs) ∙ rw e
 
-section-kept : (v : ℕ) (cs : List Cell) → sectionLimits (sectionRecord v cs) ≡ true → carriedPart (sectionRecord v cs) ≡ sectionRecord v cs
-section-kept v cs e =
+section-stays : (v : ℕ) (cs : List Cell) → sectionLimits (sectionRecord v cs) ≡ true → carriedPart (sectionRecord v cs) ≡ sectionRecord v cs
+section-stays v cs e =
     let t = kept-section (sectionRecord v cs) e in
     rw (t .0, kept-padded carriedSlot noSlot refl 8 (map inSlot cs) (kept-slots cs (rw (section-cells v cs) at (t .1))))
 
-slack-kept : (v : List ℕ) → slackLimits (slackRecord v) ≡ true → carriedPart (slackRecord v) ≡ slackRecord v
-slack-kept v e = kept-slack (slackRecord v) e (kept-padded carriedSlot noSlot refl 8 [] refl)
+slack-stays : (v : List ℕ) → slackLimits (slackRecord v) ≡ true → carriedPart (slackRecord v) ≡ slackRecord v
+slack-stays v e = kept-slack (slackRecord v) e (kept-padded carriedSlot noSlot refl 8 [] refl)
 
 -- ---- a part that is read, by its mode
 abbrev KeptPart : Mode → Part → Type 0
 KeptPart m p = partLimits m p ≡ true → carriedPart p ≡ p
 
 part-tidy : (m : Mode) (ts : List Token) → Yields (KeptPart m) (part? m ts)
-part-tidy = part-yields KeptPart (λ v cs n. section-kept v cs) (λ v cs n. section-kept v cs) slack-kept
+part-tidy = part-yields KeptPart (λ v cs n. section-stays v cs) (λ v cs n. section-stays v cs) slack-stays
 
 -- ---- a hold of such parts
-hold-kept : (m : Mode) (factor : ℕ) (ps : List Part) → Each (KeptPart m) ps → holdLimits (holdRecord m factor ps) ≡ true → carriedHold (holdRecord m factor ps) ≡ holdRecord m factor ps
+hold-stays : (m : Mode) (factor : ℕ) (ps : List Part) → Each (KeptPart m) ps → holdLimits (holdRecord m factor ps) ≡ true → carriedHold (holdRecord m factor ps) ≡ holdRecord m factor ps
 unfolding holdLimits
-hold-kept m factor ps each e =
+hold-stays m factor ps each e =
     let front = padded-front 6 noPart ps (length ps) refl in
     let inside = and-true (within 1 6 (length ps)) _ (rw front at e) in
     let t = and-true (within 5000 40000 factor) (all (partLimits m) ps) (inside .1) in
@@ -91,7 +82,7 @@ record Tidy (r : Request) : Type 0 where
   counted : (n : ℕ) → r .kind ≡ HoldLine n → (1 ≤ r .hold .head .count) × (r .hold .head .count ≤ 6)
 
 hold-tidy : (n : ℕ) (m : Mode) (factor : ℕ) (ps : List Part) → Several (KeptPart m) 6 ps → Tidy (holdRequest n (holdRecord m factor ps))
-hold-tidy n m factor ps s = record { kept = hold-kept m factor ps (s .every); counted = λ k e. (s .some, s .most) }
+hold-tidy n m factor ps s = record { kept = hold-stays m factor ps (s .every); counted = λ k e. (s .some, s .most) }
 
 -- any other line has no hold
 unheld : (k : Kind) (c : Column) → ((n : ℕ) → k ≡ HoldLine n → _≡_ {A = ℕ} 0 1) → length (c .kn) ≡ 10 → Tidy (record { kind = k; hold = noHold; column = c })

@@ -10,7 +10,6 @@ use lib.Seq.{take-suc, take-suc-set, take-append-add, take-all, take-nil, drop-d
 use borrow.Author.Tests.{ne-eqb, le-ltb}
 use lib.Dec.{eqb}
 use Rattle.whole.proofs.Lists.{drop-next, drop-end}
-use Rattle.reply.specs.Written.{over}
 use Rattle.panel.specs.declared.Condition.{Condition}
 use Rattle.panel.specs.Step.{stepOf, conditionAfter}
 use Rattle.service.specs.Lines.{Cut, cut, ended, longer, sent}
@@ -137,8 +136,3 @@ module _ (c₀ : Condition) (left₀ : ℕ) (block : List ℕ) (at i : ℕ) (c :
           count = omega (arith, s .count, l);
           rest = sym (ap (λ (k : Cut). k .rest) k) ∙ s .rest;
         }
-
--- a reply that was written over the front of a buffer is not longer than the buffer
-pub reply-fits : (w l m : List ℕ) → m ≡ over w l → length m ≡ length l → length w ≤ length l
-unfolding over
-reply-fits w l m e n = omega (arith, ap length e, length-append w (drop (length w) l))

@@ -1,13 +1,13 @@
 -- What the service knows between blocks, and what feeding it a block gives.
 use mathlib.Core.Path.{_≡_}
 use mathlib.Core.Bool.{cond}
-use mathlib.Core.List.{List, [], _∷_, _++_}
-use Prim.Native.Nat.{ℕ, suc, _-_, _≤_, _<_}
+use mathlib.Core.List.{List, [], _∷_}
+use Prim.Native.Nat.{ℕ, suc, _-_, _≤_}
 use lib.Dec.{eqb}
-use lib.ListN.{length, take, drop}
+use lib.ListN.{length, take}
 use Rattle.panel.specs.Step.{conditionAfter}
 use Rattle.service.specs.declared.Feed.{Feed}
-use Rattle.service.specs.Lines.{newline, Cut, cut, sent}
+use Rattle.service.specs.Lines.{newline, Cut, sent}
 
 -- how many bytes stand before the first byte 10
 unfoldable pub lineLength : List ℕ → ℕ

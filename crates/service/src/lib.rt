@@ -314,6 +314,9 @@ pub fn serve(lines: u64, bytes: u64) {
         }
         more -= n as u64;
     }
+    if f.used == 0 {
+        return;
+    }
     let next = fetch(&mut block, 1);
     if next == 0 {
         finish(f, &line, &mut out);

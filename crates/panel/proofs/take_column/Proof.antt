@@ -1,3 +1,4 @@
+use Rattle.record.specs.declared.Added.the-variants.{Taken}
 use mathlib.Core.Path.{_≡_, refl, sym, _∙_, ap}
 use native.Mathlib.Omega.{arith}
 use lib.ListN.{length, length-take}
@@ -5,7 +6,8 @@ use Rattle.whole.proofs.Lists.{unmapped}
 use Rattle.record.specs.Columns.{held, columnAnswer, addedCode}
 use Rattle.panel.specs.Operations.{columnOperation}
 use Rattle.panel.proofs.Taking.{taken-below}
-use Rattle.panel.proofs.Answers.{column-refused, column-passed}
+use Rattle.panel.proofs.Answers.{column-refused}
+use Rattle.panel.proofs.Effects.{same-added}
 use borrow.Author.Needs.{needs}
 use Rattle.panel.proofs.take_column.Statement.{statement}
 use Rattle.panel.proofs.take_column.Tie as tie
@@ -34,7 +36,7 @@ answer-requires c κs = search needs
 with-column-requires : tie.Need-with-column-requires
 with-column-requires c κs =
     let a = c .before .before .before .before .before .added-code .ensures ∙ ap addedCode (c .before .before .before .before .before .before .column-answer .ensures) in
-    let t = column-passed (columnAnswer (held (c .before .before .before .before .before .before .before .before .before .args .c .columns)) (c .before .before .before .before .before .before .before .before .before .args .k)) (sym a ∙ c .before .before .before .before .if1 .left) in
+    let t = same-added (columnAnswer (held (c .before .before .before .before .before .before .before .before .before .args .c .columns)) (c .before .before .before .before .before .before .before .before .before .args .k)) Taken (sym a ∙ c .before .before .before .before .if1 .left) in
     let cs = c .before .before .before .before .before .before .before .before .before .args .c .columns in
     let l : length (cs .places) ≡ 20 = search (unmapped, needs) in
     omega (arith, length-take (cs .count) (cs .places), taken-below (held cs) (c .before .before .before .before .before .before .before .before .before .args .k) t)
@@ -46,7 +48,7 @@ returns-2 : tie.Need-returns-2
 unfolding columnOperation
 returns-2 c =
     let a = c .before .before .before .before .before .before .added-code .ensures ∙ ap addedCode (c .before .before .before .before .before .before .before .column-answer .ensures) in
-    let t = column-passed (columnAnswer (held (c .before .before .before .before .before .before .before .before .before .before .args .c .columns)) (c .before .before .before .before .before .before .before .before .before .before .args .k)) (sym a ∙ c .before .before .before .before .before .if1 .left) in
+    let t = same-added (columnAnswer (held (c .before .before .before .before .before .before .before .before .before .before .args .c .columns)) (c .before .before .before .before .before .before .before .before .before .before .args .k)) Taken (sym a ∙ c .before .before .before .before .before .if1 .left) in
     rw t (record { condition = rw (c .with-column .ensures); coded = refl; long = c .before .before .before .answer .ensures .0; written = c .before .before .before .answer .ensures .1 })
 
 pub take-column-spec : {M : Type 1} → statement M

@@ -4,7 +4,8 @@ use mathlib.Core.Path.{_∙_, ap}
 use Prim.Native.Nat.{_≤_, _-_}
 use native.Mathlib.Omega.{arith}
 use Rattle.panel.specs.Step.{Outcome}
-use Rattle.service.proofs.Cutting.{any-room, reply-fits}
+use Rattle.service.proofs.Cutting.{any-room}
+use Rattle.reply.proofs.Writing.{over-fits}
 use borrow.Author.Needs.{needs}
 use Rattle.service.proofs.reply_to.Statement.{statement}
 use Rattle.service.proofs.reply_to.Tie as tie
@@ -32,7 +33,7 @@ returns c =
     let r : 96 ≤ length part = omega (arith, c .before .before .before .before .before .before .pre) in
     let e = c .before .before .step .ensures in
     let a = any-room (c .before .before .before .before .before .before .args .c) (c .before .before .before .before .before .before .args .line .now) (length part) r in
-    let w = reply-fits _ part _ (e .written) (c .before .before .step .kept .1 .1 .0) in
+    let w = over-fits _ part _ (e .written) (c .before .before .step .kept .1 .1 .0) in
     (e .condition ∙ ap (λ (o : Outcome). o .after) a, omega (arith, e .long, w, n, c .before .before .before .before .before .before .pre))
 
 pub reply-to-spec : {M : Type 1} → statement M
