@@ -20,18 +20,21 @@ def check_vectors(results, name, program, need_vectors=False):
 
 def check_lines(results, program, kinds, seeds, count):
     """Generated lines through the reference and a program."""
-    reference = support.build("reference")
     for kind in kinds:
         for seed in seeds:
-            data = support.generated(kind, seed, count)
-            right = run_program(reference, data)
-            outcome = run_program(program, data)
-            why = None
-            if right.fault:
-                why = f"the reference {right.fault}"
-            elif outcome.output != right.output:
-                why = difference(data, right.output, outcome.output) + "\n" + shown_run(program, data, right, outcome)
-            results.report(f"lines {kind} seed {seed} count {count}", why or outcome.fault)
+            results.report(f"lines {kind} seed {seed} count {count}", compared(program, kind, seed, count))
+
+
+def compared(program, kind, seed, count):
+    """What is wrong, if anything, with a program's replies to the lines of one kind and seed."""
+    data = support.generated(kind, seed, count)
+    right = run_program(support.build("reference"), data)
+    outcome = run_program(program, data)
+    if right.fault:
+        return f"the reference {right.fault}"
+    if outcome.output != right.output:
+        return difference(data, right.output, outcome.output) + "\n" + shown_run(program, data, right, outcome)
+    return outcome.fault
 
 
 def first_difference(lines, wanted, got):

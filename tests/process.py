@@ -94,11 +94,14 @@ INPUTS = [
 
 class Talk:
     """A running program. Its replies are read all the time, so that neither side waits for the other for ever, and it
-    is ended if it takes too long."""
+    is ended if it takes too long. With `packets` each read gets the bytes of just one send."""
 
-    def __init__(self, program):
+    def __init__(self, program, packets=False):
+        reading, writing = os.pipe2(os.O_CLOEXEC | (os.O_DIRECT if packets else 0))
         self.process = subprocess.Popen(
-            [str(program)], stdin=subprocess.PIPE, stdout=subprocess.PIPE, stderr=subprocess.DEVNULL, bufsize=0)
+            [str(program)], stdin=reading, stdout=subprocess.PIPE, stderr=subprocess.DEVNULL, bufsize=0)
+        os.close(reading)
+        self.input = open(writing, "wb", buffering=0)
         self.output = bytearray()
         self.late = False
         self.changed = threading.Condition()
@@ -120,7 +123,7 @@ class Talk:
     def send(self, data):
         """Sends bytes; a program that has ended does not take them, and its output will tell."""
         try:
-            self.process.stdin.write(data)
+            self.input.write(data)
         except BrokenPipeError:
             pass
 
@@ -129,9 +132,13 @@ class Talk:
         with self.changed:
             self.changed.wait_for(lambda: len(self.output) >= length, PATIENCE)
 
+    def wait_for_end(self):
+        """Waits, with the input still open, until the program has ended or time is up."""
+        self.reader.join()
+
     def finish(self):
         """Closes the input and waits for the end; answers the process's use of memory in kilobytes."""
-        self.process.stdin.close()
+        self.input.close()
         self.reader.join()
         self.process.stdout.close()
         _, status, usage = os.wait4(self.process.pid, 0)
@@ -149,7 +156,8 @@ class Talk:
 
 
 def in_pieces(program, data, right, size):
-    talk = Talk(program)
+    """Sends an input in pieces of this size; pieces of one byte are read one by one, however slow the program is."""
+    talk = Talk(program, packets=size == 1)
     for place in range(0, len(data), size):
         talk.send(data[place:place + size])
     talk.finish()

@@ -1,4 +1,4 @@
-"""What tests/compare and tests/run share: paths, builds, running a program, generated lines, counting results."""
+"""What the commands of tests/ share: paths, builds, running a program, generated lines, counting results."""
 
 import os
 import subprocess
@@ -8,8 +8,11 @@ from pathlib import Path
 TESTS = Path(__file__).resolve().parent
 REPOSITORY = TESTS.parent
 BUILT = REPOSITORY / "target" / "tests"
+CRATES = REPOSITORY / "crates"
 SERVICE = REPOSITORY / "target" / "bin" / "panel_service"
+SMALL_SERVICE = REPOSITORY / "target" / "bin" / "small_service"
 VECTORS = REPOSITORY.parent / "shared" / "vectors"
+PAPER = REPOSITORY.parent / "shared" / "papers" / "01-scope.md"
 
 KINDS = ["runs", "edges", "damaged", "mixed"]
 # The gate's lines: every kind with each of these seeds, so many lines each.

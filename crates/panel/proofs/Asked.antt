@@ -29,7 +29,7 @@ pub record Heard (c : Condition) (line : List ℕ) (lent : ℕ) : Type 0 where
 
 module _ (c : Condition) (line : List ℕ) (lent : ℕ) where
   module _ (room : 96 ≤ lent) where
-    at-reading : (r : Reading) → readingOf line ≡ r → stepOf c line lent ≡ outcomeAfter c line r
+    pub at-reading : (r : Reading) → readingOf line ≡ r → stepOf c line lent ≡ outcomeAfter c line r
     unfolding stepOf
     at-reading r e = rw (le-ltb lent 96 room, e)
 

@@ -65,7 +65,7 @@ module _ (c : Condition) where
 
   -- a column's code says which answer it was
   module _ (k : Column) where
-    change-code : (a : Added) → columnChange c k a .code ≡ addedCode a
+    pub change-code : (a : Added) → columnChange c k a .code ≡ addedCode a
     change-code Taken = refl
     change-code Limits = refl
     change-code Full = refl
@@ -110,6 +110,25 @@ module _ (c : Condition) where
   pub drop-taken : (n : ℕ) → placeLimits n ≡ true → isHeld (holdAt c n) ≡ true → dropOperation c n ≡ taken (withHold c n noHold)
   unfolding dropOperation
   drop-taken n p h = rw (p, h)
+
+  -- what each request that is answered with 00 puts into the condition
+  after : {a b : Change} → a ≡ b → b .after ≡ a .after
+  after e = ap (λ (t : Change). t .after) (sym e)
+
+  pub ship-effect : (s : Ship) → shipOperation c s .code ≡ 0 → withShip c s ≡ shipOperation c s .after
+  ship-effect s e = after (ship-taken s (ship-passed s e))
+
+  pub load-effect : (l : Load) → loadOperation c l .code ≡ 0 → withLoad c l ≡ loadOperation c l .after
+  load-effect l e = after (load-taken l (load-passed l e))
+
+  pub column-effect : (k : Column) → columnOperation c k .code ≡ 0 → withColumns c (withColumn (c .columns) k) ≡ columnOperation c k .after
+  column-effect k e = after (column-taken k (column-passed k e))
+
+  pub hold-effect : (n : ℕ) (h : Hold) → holdOperation c n h .code ≡ 0 → withHold c n h ≡ holdOperation c n h .after
+  hold-effect n h e = after (hold-taken n h (hold-passed n h e))
+
+  pub drop-effect : (n : ℕ) → dropOperation c n .code ≡ 0 → withHold c n noHold ≡ dropOperation c n .after
+  drop-effect n e = let t = drop-passed n e in after (drop-taken n (t .0) (t .1))
 
   -- judge changes nothing
   pub judge-same : (j : Judged) → verdictGiven c j .after ≡ c

@@ -68,7 +68,8 @@ unfolding weighedOf
 weighed-chooses h r a b d e = chosen-by (holdLimits h) (holdFits h) (weightMoment h) a b d ∙ ap (λ (r : Weighed). chosen r a b d) e
 
 pub place-within : (n : ℕ) → placeLimits n ≡ true → (1 ≤ n) × (n ≤ 16)
-place-within n e = let w = within-true 1 16 n e in (w .low, w .high)
+place-within n e =
+    let w = within-true 1 16 n e in (w .low, w .high)
 
 -- what an element past the end of the holds would be
 abbrev pub pastHold : Hold

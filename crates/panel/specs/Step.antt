@@ -20,6 +20,8 @@ use Rattle.reply.specs.Written.{over}
 use Rattle.reply.specs.Replies.{answerReply, refusalReply, verdictReply}
 use Rattle.panel.specs.declared.Condition.{Condition}
 use Rattle.panel.specs.Condition.{empty}
+use Rattle.panel.specs.declared.Replied.{Replied}
+use Rattle.panel.specs.declared.Answered.{Answered}
 use Rattle.panel.specs.declared.Stepped.{Stepped}
 use Rattle.panel.specs.declared.Judged.{Judged}
 use Rattle.panel.specs.declared.Judged.the-variants.{Refused, Given}
@@ -71,6 +73,19 @@ outcomeAfter c line BadNumber = answered (refusedWith (readingCode BadNumber) c)
 unfoldable pub stepOf : Condition → List ℕ → (n : ℕ) → Outcome
 stepOf c line n =
     cond (ltb n 96) (record { code = 15; reply = []; after = c }) (outcomeAfter c line (readingOf line))
+
+-- a code, its reply's length, and in the lent buffer the reply over its front, the bytes behind it as they were
+pub record Replies (code : ℕ) (reply : List ℕ) (r : Replied) (before after : List ℕ) : Type 0 where
+  pub coded : r .code ≡ code
+  pub long : r .len ≡ length reply
+  pub written : after ≡ over reply before
+
+-- what the program answers is this outcome's code and reply; and 00 is the answer to its request
+pub record Answers (o : Outcome) (c : Condition) (r : Answered) (before after : List ℕ) : Type 0 where
+  pub coded : r .code ≡ o .code
+  pub long : r .len ≡ length (o .reply)
+  pub written : after ≡ over (o .reply) before
+  pub asked : r .code ≡ 0 → o ≡ outcomeOf c (r .request)
 
 -- what the program hands back is this outcome: condition, code and length, and in the lent buffer the reply over its front, the
 -- bytes behind it as they were

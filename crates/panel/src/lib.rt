@@ -8,23 +8,27 @@ use record::Load;
 use record::Rule;
 use record::Ship;
 use request::Kind;
+use request::Request;
 use stability::Around;
 use stability::Basis;
 use stability::Judgement;
 use stability::Verdict;
 use text::Reading;
 ghost use mathlib.Core.Path.{_≡_};
-ghost use mathlib.Core.Bool.{_&&_};
-ghost use Prim.Native.Nat.{_≤_};
+ghost use mathlib.Core.Bool.{_&&_, true};
+ghost use Prim.Native.Nat.{_≤_, _<_};
 ghost use lib.ListN.{length};
 ghost use lib.Dec.{leb};
-ghost use Rattle.record.specs.Columns.{held, inOrder, addedCode};
+ghost use Rattle.record.specs.Columns.{held, inOrder, addedCode, withColumn};
+ghost use Rattle.record.specs.Limits.{placeLimits};
 ghost use Rattle.stability.specs.Verdict.{judgementCode};
-ghost use Rattle.panel.specs.Condition.{empty, holdAt, isHeld};
+ghost use Rattle.reply.specs.Written.{over};
+ghost use Rattle.reply.specs.Replies.{answerReply};
+ghost use Rattle.panel.specs.Condition.{empty, holdAt, isHeld, withShip, withLoad, withColumns, withHold};
 ghost use Rattle.grain.specs.Sum.{weighedCode};
 ghost use Rattle.text.specs.Line.{readingCode};
-ghost use Rattle.panel.specs.Operations.{taken, refusedWith, shipOperation, loadOperation, columnOperation, holdOperation, dropOperation};
-ghost use Rattle.panel.specs.Step.{answered, verdictGiven, stepOf, Steps};
+ghost use Rattle.panel.specs.Operations.{shipOperation, loadOperation, columnOperation, holdOperation, dropOperation};
+ghost use Rattle.panel.specs.Step.{verdictGiven, outcomeOf, stepOf, Replies, Answers, Steps};
 ghost use Rattle.panel.specs.Judge.{judgedOf, judgedAt, placeWeight, weightsOf, Between};
 
 // One loading condition of one ship. A place of `holds` with no parts holds no hold.
@@ -47,6 +51,19 @@ pub enum Weights {
 pub enum Judged {
     Refused(u8),
     Given(Verdict),
+}
+
+// A code, and the length of the reply that shows it.
+pub struct Replied {
+    pub code: u8,
+    pub len: usize,
+}
+
+// What a line is answered, and the request that 00 is the answer to.
+pub struct Answered {
+    pub code: u8,
+    pub len: usize,
+    pub request: Request,
 }
 
 // What a line gives: its code, the reply's length and the condition after it.
@@ -212,57 +229,24 @@ fn judge(c: Condition) -> Judged
     judge_between(c, i)
 }
 
-// ---- the operations, each with its reply
-//
-// The condition is large, and is copied wherever a function takes or gives it: each operation takes it once and gives it once.
+// ---- the codes of the operations
 
-// A line that is turned down leaves the condition as it was.
-fn refuse(c: Condition, code: u8, out: &mut [u8]) -> Stepped
-    requires { ⌜ 96 ≤ length (now out) ⌝ }
-    ensures { λ r. ⌜ Steps (answered (refusedWith code c)) r (now (out .entry)) (now (out .exit)) ⌝ }
-{
-    let len = reply::answer(out, code);
-    Stepped {
-        code,
-        len,
-        after: c,
-    }
-}
-
-fn take_ship(c: Condition, s: Ship, out: &mut [u8]) -> Stepped
-    requires { ⌜ 96 ≤ length (now out) ⌝ }
-    ensures { λ r. ⌜ Steps (answered (shipOperation c s)) r (now (out .entry)) (now (out .exit)) ⌝ }
+fn ship_code(s: Ship) -> u8
+    ensures { λ r. ⌜ ((c : Condition) → r ≡ shipOperation c s .code) ⌝ }
 {
     if !record::ship_limits(s) {
-        return refuse(c, 20, out);
+        return 20;
     }
-    let len = reply::answer(out, 0);
-    let mut after = c;
-    after.shipped = true;
-    after.ship = s;
-    Stepped {
-        code: 0,
-        len,
-        after,
-    }
+    0
 }
 
-fn take_load(c: Condition, l: Load, out: &mut [u8]) -> Stepped
-    requires { ⌜ 96 ≤ length (now out) ⌝ }
-    ensures { λ r. ⌜ Steps (answered (loadOperation c l)) r (now (out .entry)) (now (out .exit)) ⌝ }
+fn load_code(l: Load) -> u8
+    ensures { λ r. ⌜ ((c : Condition) → r ≡ loadOperation c l .code) ⌝ }
 {
     if !record::load_limits(l) {
-        return refuse(c, 20, out);
+        return 20;
     }
-    let len = reply::answer(out, 0);
-    let mut after = c;
-    after.loaded = true;
-    after.load = l;
-    Stepped {
-        code: 0,
-        len,
-        after,
-    }
+    0
 }
 
 // The paper's code for each answer of a list of columns.
@@ -277,24 +261,11 @@ fn added_code(a: Added) -> u8
     }
 }
 
-fn take_column(c: Condition, k: Column, out: &mut [u8]) -> Stepped
-    requires { ⌜ 96 ≤ length (now out) ⌝ }
-    ensures { λ r. ⌜ Steps (answered (columnOperation c k)) r (now (out .entry)) (now (out .exit)) ⌝ }
+fn column_code(c: Condition, k: Column) -> u8
+    ensures { λ r. ⌜ r ≡ columnOperation c k .code ⌝ }
 {
     let ks = c.columns;
-    let code = added_code(record::column_answer(ks, k));
-    if code != 0 {
-        return refuse(c, code, out);
-    }
-    let len = reply::answer(out, 0);
-    let columns = record::with_column(ks, k);
-    let mut after = c;
-    after.columns = columns;
-    Stepped {
-        code: 0,
-        len,
-        after,
-    }
+    added_code(record::column_answer(ks, k))
 }
 
 // The paper's code for each answer of a hold.
@@ -308,61 +279,25 @@ fn weighed_code(w: Weighed) -> u8
     }
 }
 
-fn take_hold(c: Condition, n: u32, h: Hold, out: &mut [u8]) -> Stepped
-    requires { ⌜ 96 ≤ length (now out) ⌝ }
-    ensures { λ r. ⌜ Steps (answered (holdOperation c n h)) r (now (out .entry)) (now (out .exit)) ⌝ }
+fn hold_code(n: u32, h: Hold) -> u8
+    ensures { λ r. ⌜ ((c : Condition) → r ≡ holdOperation c n h .code) ⌝ }
 {
     if !record::place_limits(n) {
-        return refuse(c, 20, out);
+        return 20;
     }
-    let code = weighed_code(grain::weigh(h));
-    if code != 0 {
-        return refuse(c, code, out);
-    }
-    let len = reply::answer(out, 0);
-    let at = (n - 1) as usize;
-    let mut after = c;
-    after.holds[at] = h;
-    Stepped {
-        code: 0,
-        len,
-        after,
-    }
+    weighed_code(grain::weigh(h))
 }
 
-fn take_drop(c: Condition, n: u32, out: &mut [u8]) -> Stepped
-    requires { ⌜ 96 ≤ length (now out) ⌝ }
-    ensures { λ r. ⌜ Steps (answered (dropOperation c n)) r (now (out .entry)) (now (out .exit)) ⌝ }
+fn drop_code(c: Condition, n: u32) -> u8
+    ensures { λ r. ⌜ r ≡ dropOperation c n .code ⌝ }
 {
     if !record::place_limits(n) {
-        return refuse(c, 20, out);
+        return 20;
     }
     if !is_held(c, n) {
-        return refuse(c, 24, out);
+        return 24;
     }
-    let len = reply::answer(out, 0);
-    let at = (n - 1) as usize;
-    let none = record::no_hold();
-    let mut after = c;
-    after.holds[at] = none;
-    Stepped {
-        code: 0,
-        len,
-        after,
-    }
-}
-
-fn take_clear(out: &mut [u8]) -> Stepped
-    requires { ⌜ 96 ≤ length (now out) ⌝ }
-    ensures { λ r. ⌜ Steps (answered (taken empty)) r (now (out .entry)) (now (out .exit)) ⌝ }
-{
-    let len = reply::answer(out, 0);
-    let after = empty_condition();
-    Stepped {
-        code: 0,
-        len,
-        after,
-    }
+    0
 }
 
 fn code_of(j: Judgement) -> u8
@@ -374,34 +309,6 @@ fn code_of(j: Judgement) -> u8
         Judgement::ShortAtHeel => 41,
         Judgement::ShortBeyond => 42,
         Judgement::ShortOfArea => 43,
-    }
-}
-
-// Judge replies `(verdict CC ..)`, and changes nothing.
-fn give_verdict(c: Condition, out: &mut [u8]) -> Stepped
-    requires { ⌜ 96 ≤ length (now out) ⌝ }
-    ensures { λ r. ⌜ Steps (verdictGiven c (judgedOf c)) r (now (out .entry)) (now (out .exit)) ⌝ }
-{
-    let j = judge(c);
-    match j {
-        Judged::Refused(code) => {
-            let len = reply::refusal(out, code);
-            Stepped {
-                code,
-                len,
-                after: c,
-            }
-        }
-        Judged::Given(v) => {
-            let judgement = v.judgement;
-            let code = code_of(judgement);
-            let len = reply::verdict(out, code, v.gm, v.diff, v.upper, v.area);
-            Stepped {
-                code,
-                len,
-                after: c,
-            }
-        }
     }
 }
 
@@ -418,33 +325,173 @@ fn reading_code(t: Reading) -> u8
     }
 }
 
+// ---- the replies
+
+// Every line but a judge that is heard is answered `(answer CC)`.
+fn answer_with(code: u8, out: &mut [u8]) -> Replied
+    requires { ⌜ 96 ≤ length (now out) ⌝ }
+    ensures { λ r. ⌜ Replies code (answerReply code) r (now (out .entry)) (now (out .exit)) ⌝ }
+{
+    let len = reply::answer(out, code);
+    Replied { code, len }
+}
+
+// Judge replies `(verdict CC ..)`.
+fn give_verdict(c: Condition, out: &mut [u8]) -> Replied
+    requires { ⌜ 96 ≤ length (now out) ⌝ }
+    ensures { λ r. ⌜ Replies (verdictGiven c (judgedOf c) .code) (verdictGiven c (judgedOf c) .reply) r (now (out .entry)) (now (out .exit)) ⌝ }
+{
+    let j = judge(c);
+    match j {
+        Judged::Refused(code) => {
+            let len = reply::refusal(out, code);
+            Replied { code, len }
+        }
+        Judged::Given(v) => {
+            let judgement = v.judgement;
+            let code = code_of(judgement);
+            let len = reply::verdict(out, code, v.gm, v.diff, v.upper, v.area);
+            Replied { code, len }
+        }
+    }
+}
+
+fn reply_to(c: Condition, r: Request, out: &mut [u8]) -> Replied
+    requires { ⌜ 96 ≤ length (now out) ⌝ }
+    ensures { λ a. ⌜ Replies (outcomeOf c r .code) (outcomeOf c r .reply) a (now (out .entry)) (now (out .exit)) ⌝ }
+{
+    let kind = r.kind;
+    let h = r.hold;
+    let k = r.column;
+    match kind {
+        Kind::ShipLine(s) => answer_with(ship_code(s), out),
+        Kind::ColumnLine => answer_with(column_code(c, k), out),
+        Kind::LoadLine(l) => answer_with(load_code(l), out),
+        Kind::HoldLine(n) => answer_with(hold_code(n, h), out),
+        Kind::DropLine(n) => answer_with(drop_code(c, n), out),
+        Kind::JudgeLine => give_verdict(c, out),
+        Kind::ClearLine => answer_with(0, out),
+        Kind::NoShape => answer_with(14, out),
+    }
+}
+
+// A line that is turned down before its request is looked at.
+fn turn_down(code: u8, out: &mut [u8]) -> Answered
+    requires { ⌜ 96 ≤ length (now out) ⌝ }
+    ensures { λ r. ⌜ (r .code ≡ code) × (r .len ≡ length (answerReply code)) × (now (out .exit) ≡ over (answerReply code) (now (out .entry))) ⌝ }
+{
+    let len = reply::answer(out, code);
+    Answered {
+        code,
+        len,
+        request: request::plain(Kind::NoShape),
+    }
+}
+
+// What a line is answered: the reply at the front of the lent buffer.
+pub fn answer(c: Condition, line: &[u8], out: &mut [u8]) -> Answered
+    ensures { λ r. ⌜ Answers (stepOf c (now (line .entry)) (length (now (out .entry)))) c r (now (out .entry)) (now (out .exit)) ⌝ }
+{
+    if out.len() < 96 {
+        return Answered {
+            code: 15,
+            len: 0,
+            request: request::plain(Kind::NoShape),
+        };
+    }
+    let found = reading_code(text::reading_of(line));
+    if found != 0 {
+        return turn_down(found, out);
+    }
+    let request = request::request_of(line);
+    let a = reply_to(c, request, out);
+    Answered {
+        code: a.code,
+        len: a.len,
+        request,
+    }
+}
+
+// ---- the effects of the requests that are answered with 00
+//
+// The condition is large, and is copied wherever a function gives it: a line that is turned down, and judge, come here never.
+
+fn with_ship(c: Condition, s: Ship) -> Condition
+    ensures { λ r. ⌜ r ≡ withShip c s ⌝ }
+{
+    let mut after = c;
+    after.shipped = true;
+    after.ship = s;
+    after
+}
+
+fn with_load(c: Condition, l: Load) -> Condition
+    ensures { λ r. ⌜ r ≡ withLoad c l ⌝ }
+{
+    let mut after = c;
+    after.loaded = true;
+    after.load = l;
+    after
+}
+
+fn with_column(c: Condition, k: Column) -> Condition
+    ensures { λ r. ⌜ (length (held (c .columns)) < 20 → r ≡ withColumns c (withColumn (c .columns) k)) ⌝ }
+{
+    let ks = c.columns;
+    if 20 <= ks.count {
+        return c;
+    }
+    let mut after = c;
+    after.columns = record::with_column(ks, k);
+    after
+}
+
+fn with_hold(c: Condition, n: u32, h: Hold) -> Condition
+    ensures { λ r. ⌜ (placeLimits n ≡ true → r ≡ withHold c n h) ⌝ }
+{
+    if !record::place_limits(n) {
+        return c;
+    }
+    let at = (n - 1) as usize;
+    let mut after = c;
+    after.holds[at] = h;
+    after
+}
+
+// The condition after a request that was answered with 00.
+pub fn effect(c: Condition, r: Request) -> Condition
+    ensures { λ a. ⌜ (outcomeOf c r .code ≡ 0 → a ≡ outcomeOf c r .after) ⌝ }
+{
+    let kind = r.kind;
+    let h = r.hold;
+    let k = r.column;
+    match kind {
+        Kind::ShipLine(s) => with_ship(c, s),
+        Kind::ColumnLine => with_column(c, k),
+        Kind::LoadLine(l) => with_load(c, l),
+        Kind::HoldLine(n) => with_hold(c, n, h),
+        Kind::DropLine(n) => with_hold(c, n, record::no_hold()),
+        Kind::JudgeLine => c,
+        Kind::ClearLine => empty_condition(),
+        Kind::NoShape => c,
+    }
+}
+
 // One line: its reply at the front of the lent buffer, and the condition after it.
 pub fn step(c: Condition, line: &[u8], out: &mut [u8]) -> Stepped
     ensures { λ r. ⌜ Steps (stepOf c (now (line .entry)) (length (now (out .entry)))) r (now (out .entry)) (now (out .exit)) ⌝ }
 {
-    if out.len() < 96 {
+    let a = answer(c, line, out);
+    let code = a.code;
+    let len = a.len;
+    if code != 0 {
         return Stepped {
-            code: 15,
-            len: 0,
+            code,
+            len,
             after: c,
         };
     }
-    let code = reading_code(text::reading_of(line));
-    if code != 0 {
-        return refuse(c, code, out);
-    }
-    let r = request::request_of(line);
-    let h = r.hold;
-    let k = r.column;
-    let kind = r.kind;
-    match kind {
-        Kind::ShipLine(s) => take_ship(c, s, out),
-        Kind::ColumnLine => take_column(c, k, out),
-        Kind::LoadLine(l) => take_load(c, l, out),
-        Kind::HoldLine(n) => take_hold(c, n, h, out),
-        Kind::DropLine(n) => take_drop(c, n, out),
-        Kind::JudgeLine => give_verdict(c, out),
-        Kind::ClearLine => take_clear(out),
-        Kind::NoShape => refuse(c, 14, out),
-    }
+    let request = a.request;
+    let after = effect(c, request);
+    Stepped { code, len, after }
 }

@@ -209,7 +209,7 @@ fn sizes_at(s: &[u8], at: usize, want: usize) -> Sizes
 
 // ---- a request without hold or column
 
-fn plain(kind: Kind) -> Request
+pub fn plain(kind: Kind) -> Request
     ensures { λ r. ⌜ r ≡ Shape·plain kind ⌝ }
 {
     Request {

@@ -1,15 +1,16 @@
 -- Laws of lines, as the loops over a block use them.
 use mathlib.Core.Path.{_≡_, refl, sym, _∙_, ap}
 use mathlib.Core.Bool.{Bool, true, false, cond}
-use mathlib.Core.List.{List, [], _∷_, _++_}
+use mathlib.Core.List.{List, [], _∷_, _++_, append-assoc, append-nil}
 use Prim.Native.Nat.{ℕ, zero, suc, _+_, _-_, _≤_, _<_}
 use native.Mathlib.Omega.{arith}
 use native.Mathlib.Numerals.{add-one}
 use lib.ListN.{length, getD, take, drop, set, length-append, length-drop}
-use lib.Seq.{take-suc, take-suc-set, take-append-add, take-all, take-nil, drop-drop}
+use lib.Seq.{take-suc, take-suc-set, take-append-add, take-all, take-nil, drop-drop, length-take-le}
 use borrow.Author.Tests.{ne-eqb, le-ltb}
 use lib.Dec.{eqb}
 use Rattle.whole.proofs.Lists.{drop-next, drop-end}
+use Rattle.reply.specs.Written.{over}
 use Rattle.panel.specs.declared.Condition.{Condition}
 use Rattle.panel.specs.Step.{stepOf, conditionAfter}
 use Rattle.service.specs.Lines.{Cut, cut, ended, longer, sent}
@@ -45,6 +46,15 @@ kept-all k p n i e = rw (e, take-append-add k p i)
 
 pub kept-rest : (k p : List ℕ) (n i : ℕ) → length p ≤ i → length k + length p ≤ n → k ++ take i p ≡ take n (k ++ p)
 kept-rest k p n i h g = rw (take-all i p h) (sym (take-all n (k ++ p) (omega (arith, length-append k p))))
+
+-- ---- a reply behind those that wait
+pub reply-waits : (l part post w : List ℕ) (n k : ℕ) → n ≤ length l → k ≡ length w → take (n + k) (take n l ++ (over w part ++ post)) ≡ take n l ++ w
+unfolding over
+reply-waits l part post w n k p e =
+    let m : n + k ≡ length (take n l) + length w = omega (arith, length-take-le n l p) in
+    let z : length w ≡ length w + 0 = omega arith in
+    rw (m, take-append-add (take n l) ((w ++ drop (length w) part) ++ post) (length w), append-assoc w (drop (length w) part) post)
+    (ap (λ (t : List ℕ). take n l ++ t) (ap (λ (i : ℕ). take i (w ++ (drop (length w) part ++ post))) z ∙ take-append-add w (drop (length w) part ++ post) 0 ∙ append-nil w))
 
 -- ---- an input from its next byte 10 on
 cut-by : (b : ℕ) (s : List ℕ) (x : Bool) → eqb b 10 ≡ x → cond x 0 (suc (lineLength s)) < suc (length s) →
@@ -85,23 +95,24 @@ pub record Standing (c₀ : Condition) (left₀ : ℕ) (block : List ℕ) (at i 
 pub standing-first : (c₀ : Condition) (left₀ : ℕ) (block : List ℕ) (at : ℕ) → Standing c₀ left₀ block at at c₀ left₀
 standing-first c₀ left₀ block at = record { condition = refl; count = refl; rest = refl }
 
-none-sent : (c : Condition) (n : ℕ) → conditionAfter c (sent (take n [])) ≡ c
+pub none-sent : (c : Condition) (n : ℕ) → conditionAfter c (sent (take n [])) ≡ c
 unfolding conditionAfter
 none-sent c n = rw (take-nil n)
 
 one-sent : (c : Condition) (n : ℕ) (l : List ℕ) (ls : List (List ℕ)) → 0 < n → conditionAfter c (sent (take n (l ∷ ls))) ≡ conditionAfter (stepOf c l 96 .after) (sent (take (n - 1) ls))
 unfolding conditionAfter
 one-sent c zero l ls h = absurd (omega arith)
-one-sent c (suc n) l ls h = let e : suc n - 1 ≡ n = omega arith in rw e
+one-sent c (suc n) l ls h =
+    let e : suc n - 1 ≡ n = omega arith in rw e
 
 -- where the loop ends: the condition and the count that were to come, and what stands behind the lines
-pub record Ends (c₀ : Condition) (left₀ : ℕ) (block : List ℕ) (at i : ℕ) (c : Condition) (left : ℕ) : Type 0 where
+pub record EndsAt (c₀ : Condition) (left₀ : ℕ) (block : List ℕ) (at i : ℕ) (c : Condition) (left : ℕ) : Type 0 where
   pub condition : c ≡ conditionAfter c₀ (sent (take left₀ (cut (drop at block) .lines)))
   pub count : left ≡ left₀ - length (cut (drop at block) .lines)
   pub rest : 0 < left → drop i block ≡ cut (drop at block) .rest
 
 module _ (c₀ : Condition) (left₀ : ℕ) (block : List ℕ) (at i : ℕ) (c : Condition) (left : ℕ) (s : Standing c₀ left₀ block at i c left) where
-  pub no-lines-left : left ≡ 0 → Ends c₀ left₀ block at i c left
+  pub no-lines-left : left ≡ 0 → EndsAt c₀ left₀ block at i c left
   no-lines-left z =
       record {
         condition = sym (sym (s .condition) ∙ rw z (none-sent c 0));
@@ -110,7 +121,7 @@ module _ (c₀ : Condition) (left₀ : ℕ) (block : List ℕ) (at i : ℕ) (c :
       }
 
   module _ (e : ℕ) (there : e ≡ i + lineLength (drop i block)) where
-    pub no-further-line : i ≤ length block → length block ≤ e → Ends c₀ left₀ block at i c left
+    pub no-further-line : i ≤ length block → length block ≤ e → EndsAt c₀ left₀ block at i c left
     no-further-line b h =
         let k = cut-none (drop i block) (omega (arith, length-drop i block)) in
         let n = ap (λ (k : Cut). length (k .lines)) k in

@@ -1,14 +1,13 @@
 // Lines from standard input to the panel, and its replies to standard output.
+use panel::Answered;
 use panel::Condition;
-use panel::Stepped;
 ghost use mathlib.Core.Path.{_≡_};
-ghost use mathlib.Core.List.{_++_};
+ghost use mathlib.Core.List.{[], _++_};
 ghost use Prim.Native.Nat.{ℕ, _+_, _-_, _≤_, _<_};
 ghost use lib.ListN.{length, take, drop};
-ghost use Rattle.panel.specs.Condition.{empty};
 ghost use Rattle.panel.specs.Step.{stepOf};
 ghost use Rattle.service.specs.Lines.{cut};
-ghost use Rattle.service.specs.Feeding.{lineLength, Fed, Ready};
+ghost use Rattle.service.specs.Feeding.{lineLength, Fed, Stands, Moves, Ends, Ready, AnsweredBehind, KeptTaken, FirstMoved};
 
 // What goes from block to block, beside the kept bytes of a line and the output: the condition, the lines that may still be
 // taken, how many bytes of a line that has begun are kept, how many bytes of replies wait, and whether the output takes them.
@@ -118,11 +117,11 @@ fn keep(line: &mut [u8], used: usize, piece: &[u8]) -> usize
 }
 
 // One line: its reply goes behind those that wait.
-fn reply_to(c: Condition, line: &[u8], out: &mut [u8], filled: usize) -> Stepped
+fn answer_line(c: Condition, line: &[u8], out: &mut [u8], filled: usize) -> Answered
     requires { ⌜ (filled ≤ 65000) × (length (now out) ≡ 65536) ⌝ }
-    ensures { λ r. ⌜ (r .after ≡ stepOf c (now (line .entry)) 96 .after) × (filled + r .len ≤ 65536) ⌝ }
+    ensures { λ r. ⌜ AnsweredBehind (stepOf c (now (line .entry)) 96) c r filled (now (out .entry)) (now (out .exit)) ⌝ }
 {
-    panel::step(c, line, &mut out[filled..])
+    panel::answer(c, line, &mut out[filled..])
 }
 
 // Takes the lines of a block from `at` on, up to the last that byte 10 ends.
@@ -148,13 +147,16 @@ fn whole_lines(f: Feed, block: &[u8], at: usize, out: &mut [u8]) -> Taken
             };
             return Taken { feed, at: i };
         }
-        let r = reply_to(c, &block[i..e], out, filled);
-        c = r.after;
+        let r = answer_line(c, &block[i..e], out, filled);
         let w = drain(out, filled + r.len, going);
         filled = w.filled;
         going = w.going;
         left -= 1;
         i = behind(block, e);
+        if r.code == 0 {
+            let q = r.request;
+            c = panel::effect(c, q);
+        }
     }
     let feed = Feed {
         cond: c,
@@ -169,7 +171,7 @@ fn whole_lines(f: Feed, block: &[u8], at: usize, out: &mut [u8]) -> Taken
 // Takes the line that is kept, if a byte of it is.
 fn take_kept(f: Feed, line: &[u8], out: &mut [u8]) -> Feed
     requires { ⌜ Ready f (now line) (now out) ⌝ }
-    ensures { λ r. ⌜ Ready r (now (line .entry)) (now (out .exit)) ⌝ }
+    ensures { λ r. ⌜ Ready r (now (line .entry)) (now (out .exit)) × KeptTaken f (now (line .entry)) r ⌝ }
 {
     let used = f.used;
     let left = f.left;
@@ -181,22 +183,26 @@ fn take_kept(f: Feed, line: &[u8], out: &mut [u8]) -> Feed
     }
     let filled = f.filled;
     let c = f.cond;
-    let r = reply_to(c, &line[..used], out, filled);
-    let cond = r.after;
+    let r = answer_line(c, &line[..used], out, filled);
     let w = drain(out, filled + r.len, f.going);
-    Feed {
-        cond,
+    let mut g = Feed {
+        cond: c,
         left: left - 1,
         used: 0,
         filled: w.filled,
         going: w.going,
+    };
+    if r.code == 0 {
+        let q = r.request;
+        g.cond = panel::effect(c, q);
     }
+    g
 }
 
 // The line that has begun in an earlier block, up to this block's first byte 10.
 fn first_line(f: Feed, block: &[u8], line: &mut [u8], out: &mut [u8]) -> Taken
     requires { ⌜ Ready f (now line) (now out) ⌝ }
-    ensures { λ r. ⌜ Ready (r .feed) (now (line .exit)) (now (out .exit)) × (r .at ≤ length (now (block .entry))) ⌝ }
+    ensures { λ r. ⌜ Ready (r .feed) (now (line .exit)) (now (out .exit)) × FirstMoved f (now (line .entry)) (now (block .entry)) (r .feed) (r .at) (now (line .exit)) ⌝ }
 {
     if f.used == 0 {
         return Taken { feed: f, at: 0 };
@@ -215,7 +221,7 @@ fn first_line(f: Feed, block: &[u8], line: &mut [u8], out: &mut [u8]) -> Taken
 // Takes every line that ends in the block, and keeps what stands behind them.
 fn feed_block(f: Feed, block: &[u8], line: &mut [u8], out: &mut [u8]) -> Feed
     requires { ⌜ Ready f (now line) (now out) ⌝ }
-    ensures { λ r. ⌜ Ready r (now (line .exit)) (now (out .exit)) ⌝ }
+    ensures { λ r. ⌜ Ready r (now (line .exit)) (now (out .exit)) × Moves f (take (f .used) (now (line .entry))) (now (block .entry)) r (take (r .used) (now (line .exit))) ⌝ }
 {
     let first = first_line(f, block, line, out);
     let from = first.feed;
@@ -232,7 +238,7 @@ fn feed_block(f: Feed, block: &[u8], line: &mut [u8], out: &mut [u8]) -> Feed
 // Writes what waits, so that no reply waits while the service waits for input.
 fn flush(f: Feed, out: &[u8]) -> Feed
     requires { ⌜ (f .filled ≤ 65000) × (length (now out) ≡ 65536) ⌝ }
-    ensures { λ r. ⌜ (r .filled ≡ 0) × (r .used ≡ f .used) × (r .left ≡ f .left) ⌝ }
+    ensures { λ r. ⌜ (r .filled ≡ 0) × (r .used ≡ f .used) × (r .left ≡ f .left) × (r .cond ≡ f .cond) ⌝ }
 {
     let filled = f.filled;
     let mut g = f;
@@ -270,7 +276,7 @@ fn fetch(block: &mut [u8], most: usize) -> usize
 }
 
 fn start(lines: u64) -> Feed
-    ensures { λ r. ⌜ (r .cond ≡ empty) × (r .left ≡ lines) × (r .used ≡ 0) × (r .filled ≡ 0) ⌝ }
+    ensures { λ r. ⌜ Stands lines [] r [] × (r .used ≡ 0) × (r .filled ≡ 0) ⌝ }
 {
     Feed {
         cond: panel::empty_condition(),
@@ -282,11 +288,12 @@ fn start(lines: u64) -> Feed
 }
 
 // The end of the input: its last line, and what waits.
-fn finish(f: Feed, line: &[u8], out: &mut [u8])
+fn finish(f: Feed, line: &[u8], out: &mut [u8]) -> Feed
     requires { ⌜ Ready f (now line) (now out) ⌝ }
+    ensures { λ r. ⌜ Ends f (take (f .used) (now (line .entry))) r ⌝ }
 {
     let g = take_kept(f, line, out);
-    flush(g, out);
+    flush(g, out)
 }
 
 // Takes lines from standard input until it ends, or this many lines or bytes were read.
@@ -315,6 +322,9 @@ pub fn serve(lines: u64, bytes: u64) {
         more -= n as u64;
     }
     if f.used == 0 {
+        return;
+    }
+    if f.left == 0 {
         return;
     }
     let next = fetch(&mut block, 1);

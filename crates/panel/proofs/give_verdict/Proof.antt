@@ -1,8 +1,8 @@
-use Rattle.panel.proofs.Shown.{upper-shown}
 use mir.Syntax.{w64}
 use mir.Val.{SFits}
 use mir.Facts.{toZ-ofZ}
 use mathlib.Core.Path.{refl, sym, _∙_}
+use Rattle.panel.proofs.Shown.{upper-shown}
 use borrow.Author.Needs.{needs}
 use Rattle.panel.proofs.give_verdict.Statement.{statement}
 use Rattle.panel.proofs.give_verdict.Tie as tie
@@ -23,15 +23,13 @@ code-of-requires : tie.Need-code-of-requires
 code-of-requires c κs = search needs
 
 verdict-requires : tie.Need-verdict-requires
-verdict-requires c κs =
-    let u = upper-shown (c .before .before .before .before .before .before .before .before .before .args .c) (c .before .before .before .before .before .j2 .given .0 .0) (sym (c .before .before .before .before .before .before .before .judge .ensures) ∙ c .before .before .before .before .before .j2 .given .1) in
-    (search needs, u)
+verdict-requires c κs = (search needs, upper-shown (c .before .before .before .before .before .before .before .before .before .args .c) (c .before .before .before .before .before .j2 .given .0 .0) (sym (c .before .before .before .before .before .before .before .judge .ensures) ∙ c .before .before .before .before .before .j2 .given .1))
 
 same-length : tie.Need-same-length
 same-length c = search needs
 
 returns : tie.Need-returns
-returns c = rw (sym (c .before .before .before .before .before .before .before .judge .ensures) ∙ c .before .before .before .before .before .j .given .1) (record { condition = refl; coded = refl; long = c .before .before .refusal .ensures .0; written = c .before .before .refusal .ensures .1 })
+returns c = rw (sym (c .before .before .before .before .before .before .before .judge .ensures) ∙ c .before .before .before .before .before .j .given .1) (record { coded = refl; long = c .before .before .refusal .ensures .0; written = c .before .before .refusal .ensures .1 })
 
 same-length-2 : tie.Need-same-length-2
 same-length-2 c = search needs
@@ -41,7 +39,12 @@ returns-2 c =
     let v = c .before .before .before .before .before .before .before .before .j2 .given .0 .0 in
     let f1 : SFits w64 (v .gm) = search needs in
     let f2 : SFits w64 (v .diff) = search needs in
-    rw (sym (c .before .before .before .before .before .before .before .before .before .before .judge .ensures) ∙ c .before .before .before .before .before .before .before .before .j2 .given .1) (record { condition = refl; coded = c .before .before .before .before .before .before .code-of .ensures; long = c .before .before .verdict .ensures .0 ∙ rw (c .before .before .before .before .before .before .code-of .ensures, toZ-ofZ {w = w64} {z = v .gm} f1, toZ-ofZ {w = w64} {z = v .diff} f2); written = c .before .before .verdict .ensures .1 ∙ rw (c .before .before .before .before .before .before .code-of .ensures, toZ-ofZ {w = w64} {z = v .gm} f1, toZ-ofZ {w = w64} {z = v .diff} f2) })
+    rw (sym (c .before .before .before .before .before .before .before .before .before .before .judge .ensures) ∙ c .before .before .before .before .before .before .before .before .j2 .given .1)
+    (record {
+      coded = c .before .before .before .before .before .before .code-of .ensures;
+      long = c .before .before .verdict .ensures .0 ∙ rw (c .before .before .before .before .before .before .code-of .ensures, toZ-ofZ {w = w64} {z = v .gm} f1, toZ-ofZ {w = w64} {z = v .diff} f2);
+      written = c .before .before .verdict .ensures .1 ∙ rw (c .before .before .before .before .before .before .code-of .ensures, toZ-ofZ {w = w64} {z = v .gm} f1, toZ-ofZ {w = w64} {z = v .diff} f2);
+    })
 
 pub give-verdict-spec : {M : Type 1} → statement M
 give-verdict-spec =

@@ -1,21 +1,23 @@
-use mathlib.Core.Path.{sym}
+use mathlib.Core.Path.{refl, sym, _∙_}
 use native.Mathlib.Omega.{arith}
+use lib.ListN.{take}
 use lib.Seq.{length-take-le}
+use Rattle.panel.proofs.Answers.{answer-kept, answer-effect}
 use borrow.Author.Needs.{needs}
 use Rattle.service.proofs.take_kept.Statement.{statement}
 use Rattle.service.proofs.take_kept.Tie as tie
 
 returns : tie.Need-returns
-returns c = search needs
+returns c = (search needs, record { taken = λ p u. absurd (omega arith); none = λ e. refl; full = λ e. refl })
 
 returns-2 : tie.Need-returns-2
-returns-2 c = search needs
+returns-2 c = (search needs, record { taken = λ p u. absurd (omega arith); none = λ e. refl; full = λ e. refl })
 
-slice-aggregate-reply-to : tie.Need-slice-aggregate-reply-to
-slice-aggregate-reply-to c = sym (length-take-le _ _ (omega (arith, c .before .before .before .before .before .before .pre .kept)))
+slice-aggregate-answer-line : tie.Need-slice-aggregate-answer-line
+slice-aggregate-answer-line c = sym (length-take-le _ _ (omega (arith, c .before .before .before .before .before .before .pre .kept)))
 
-reply-to-requires : tie.Need-reply-to-requires
-reply-to-requires c κs = search needs
+answer-line-requires : tie.Need-answer-line-requires
+answer-line-requires c κs = search needs
 
 add-drain : tie.Need-add-drain
 add-drain c = search needs
@@ -23,14 +25,37 @@ add-drain c = search needs
 drain-requires : tie.Need-drain-requires
 drain-requires c κs = search needs
 
-sub-t19 : tie.Need-sub-t19
-sub-t19 c = search needs
+sub-t20 : tie.Need-sub-t20
+sub-t20 c = search needs
+
+effect-requires : tie.Need-effect-requires
+effect-requires c κs = search needs
 
 same-length : tie.Need-same-length
 same-length c = search needs
 
 returns-3 : tie.Need-returns-3
-returns-3 c = search needs
+returns-3 c = (
+  record { waits = c .before .before .before .before .drain .ensures; room = c .before .before .before .before .before .before .before .before .before .answer-line .kept .1 .1 .0 ∙ c .before .before .before .before .before .before .before .before .before .before .before .before .before .before .before .before .before .pre .room; kept = omega arith; enough = c .before .before .before .before .before .before .before .before .before .before .before .before .before .before .before .before .before .pre .enough },
+  record {
+    taken = λ p u. record { condition = answer-effect (c .before .before .before .before .before .before .before .before .before .before .before .before .before .before .before .before .before .args .f .cond) (take (c .before .before .before .before .before .before .before .before .before .before .before .before .before .before .before .before .before .args .f .used) (c .before .before .before .before .before .before .before .before .before .before .before .before .before .before .before .before .before .args .line .now)) 96 (c .before .before .before .before .before .before .before .before .before .answer-line .result) (c .before .before .before .before .before .before .before .before .before .answer-line .ensures .coded) (c .before .before .before .before .before .before .before .before .before .answer-line .ensures .asked) (c .before .before .if3 .taken) _ (c .effect .ensures); count = refl; none = refl };
+    none = λ e. absurd (c .before .before .before .before .before .before .before .before .before .before .before .before .before .before .if1 .left e);
+    full = λ e. absurd (c .before .before .before .before .before .before .before .before .before .before .before .before .before .if2 .left e);
+  },
+)
+
+same-length-2 : tie.Need-same-length-2
+same-length-2 c = search needs
+
+returns-4 : tie.Need-returns-4
+returns-4 c = (
+  record { waits = c .before .before .drain .ensures; room = c .before .before .before .before .before .before .before .answer-line .kept .1 .1 .0 ∙ c .before .before .before .before .before .before .before .before .before .before .before .before .before .before .before .pre .room; kept = omega arith; enough = c .before .before .before .before .before .before .before .before .before .before .before .before .before .before .before .pre .enough },
+  record {
+    taken = λ p u. record { condition = answer-kept (c .before .before .before .before .before .before .before .before .before .before .before .before .before .before .before .args .f .cond) (take (c .before .before .before .before .before .before .before .before .before .before .before .before .before .before .before .args .f .used) (c .before .before .before .before .before .before .before .before .before .before .before .before .before .before .before .args .line .now)) 96 (c .before .before .before .before .before .before .before .answer-line .result) (c .before .before .before .before .before .before .before .answer-line .ensures .coded) (c .if3 .left); count = refl; none = refl };
+    none = λ e. absurd (c .before .before .before .before .before .before .before .before .before .before .before .before .if1 .left e);
+    full = λ e. absurd (c .before .before .before .before .before .before .before .before .before .before .before .if2 .left e);
+  },
+)
 
 pub take-kept-spec : {M : Type 1} → statement M
 take-kept-spec =
@@ -38,10 +63,13 @@ take-kept-spec =
     (tie.spec
     returns
     returns-2
-    slice-aggregate-reply-to
-    reply-to-requires
+    slice-aggregate-answer-line
+    answer-line-requires
     add-drain
     drain-requires
-    sub-t19
+    sub-t20
+    effect-requires
     same-length
-    returns-3)
+    returns-3
+    same-length-2
+    returns-4)

@@ -1,8 +1,9 @@
-use Rattle.service.proofs.Cutting.{Standing, standing-first, no-lines-left, no-further-line, next-line}
-use Prim.Native.Nat.{_≤_, _<_}
+use mathlib.Core.Path.{_≡_, refl, _∙_}
+use Prim.Native.Nat.{_-_, _≤_, _<_}
 use native.Mathlib.Omega.{arith}
-use mathlib.Core.Path.{_≡_, refl}
-use lib.ListN.{length}
+use lib.ListN.{length, take, drop}
+use Rattle.panel.proofs.Answers.{answer-kept, answer-effect}
+use Rattle.service.proofs.Cutting.{Standing, standing-first, no-lines-left, no-further-line, next-line}
 use borrow.Author.Needs.{needs}
 use Rattle.service.proofs.whole_lines.Statement.{statement}
 use Rattle.service.proofs.whole_lines.Tie as tie
@@ -25,24 +26,21 @@ same-length c = search needs
 returns : tie.Need-returns Inv-loop μ-loop
 returns c =
     let b = c .before .before .before .before .before .before .before .args .block .now in
-    let at = c .before .before .before .before .before .before .before .args .at in
-    let c0 = c .before .before .before .before .before .before .before .args .f .cond in
-    let n0 = c .before .before .before .before .before .before .before .args .f .left in
     let l = c .before .before .before .loop in
-    let e = no-further-line c0 n0 b at (l .i) (l .c) (l .left) (l .inv .0) (c .before .line-end .result) (c .before .line-end .ensures .0) (l .inv .1) (search needs) in
+    let e = no-further-line (c .before .before .before .before .before .before .before .args .f .cond) (c .before .before .before .before .before .before .before .args .f .left) b (c .before .before .before .before .before .before .before .args .at) (l .i) (l .c) (l .left) (l .inv .0) (c .before .line-end .result) (c .before .line-end .ensures .0) (l .inv .1) (search needs) in
     (record { condition = e .condition; count = e .count }, refl, l .inv .2, l .inv .1, e .rest)
 
-sub-reply-to : tie.Need-sub-reply-to Inv-loop μ-loop
-sub-reply-to c = search needs
+sub-answer-line : tie.Need-sub-answer-line Inv-loop μ-loop
+sub-answer-line c = search needs
 
-part-reply-to-start : tie.Need-part-reply-to-start Inv-loop μ-loop
-part-reply-to-start c = search needs
+part-answer-line-start : tie.Need-part-answer-line-start Inv-loop μ-loop
+part-answer-line-start c = search needs
 
-part-reply-to-end : tie.Need-part-reply-to-end Inv-loop μ-loop
-part-reply-to-end c = search needs
+part-answer-line-end : tie.Need-part-answer-line-end Inv-loop μ-loop
+part-answer-line-end c = search needs
 
-reply-to-requires : tie.Need-reply-to-requires Inv-loop μ-loop
-reply-to-requires c κs = search needs
+answer-line-requires : tie.Need-answer-line-requires Inv-loop μ-loop
+answer-line-requires c κs = search needs
 
 add-drain : tie.Need-add-drain Inv-loop μ-loop
 add-drain c = search needs
@@ -56,31 +54,40 @@ sub-left c = search needs
 behind-requires : tie.Need-behind-requires Inv-loop μ-loop
 behind-requires c κs = search needs
 
+effect-requires : tie.Need-effect-requires Inv-loop μ-loop
+effect-requires c κs = search needs
+
 loop-less : tie.Need-loop-less Inv-loop μ-loop
-loop-less c = search needs
+loop-less c = omega (arith, c .before .before .before .before .before .before .before .before .before .before .before .before .before .before .before .loop-test .taken)
 
 loop-again : tie.Need-loop-again Inv-loop μ-loop
 loop-again c =
-    let b = c .before .before .before .before .before .before .before .before .before .before .before .before .before .before .before .before .before .args .block .now in
-    let at = c .before .before .before .before .before .before .before .before .before .before .before .before .before .before .before .before .before .args .at in
-    let c0 = c .before .before .before .before .before .before .before .before .before .before .before .before .before .before .before .before .before .args .f .cond in
-    let n0 = c .before .before .before .before .before .before .before .before .before .before .before .before .before .before .before .before .before .args .f .left in
-    let l = c .before .before .before .before .before .before .before .before .before .before .before .before .before .loop in
-    let h : c .before .before .before .before .before .before .before .before .before .before .before .line-end .result < length b = search needs in
-    let n = next-line c0 n0 b at (l .i) (l .c) (l .left) (l .inv .0) (c .before .before .before .before .before .before .before .before .before .before .before .line-end .result) (c .before .before .before .before .before .before .before .before .before .before .before .line-end .ensures .0) (l .inv .1) h (omega arith) _ (c .before .before .before .before .before .before .before .reply-to .ensures .0) in
-    (rw (c .behind .ensures .0) n, c .behind .ensures .1, search needs, search needs, search needs)
+    let b = c .before .before .before .before .before .before .before .before .before .before .before .before .before .before .before .before .before .before .before .before .args .block .now in
+    let l = c .before .before .before .before .before .before .before .before .before .before .before .before .before .before .before .before .loop in
+    let h : c .before .before .before .before .before .before .before .before .before .before .before .before .before .before .line-end .result < length b = omega (arith, c .before .before .before .before .before .before .before .before .before .before .before .before .before .if1 .left) in
+    let d = answer-effect (l .c) (take (c .before .before .before .before .before .before .before .before .before .before .before .before .before .before .line-end .result - l .i) (drop (l .i) b)) 96 (c .before .before .before .before .before .before .before .before .before .before .answer-line .result) (c .before .before .before .before .before .before .before .before .before .before .answer-line .ensures .coded) (c .before .before .before .before .before .before .before .before .before .before .answer-line .ensures .asked) (c .before .before .if2 .taken) _ (c .effect .ensures) in
+    let n = next-line (c .before .before .before .before .before .before .before .before .before .before .before .before .before .before .before .before .before .before .before .before .args .f .cond) (c .before .before .before .before .before .before .before .before .before .before .before .before .before .before .before .before .before .before .before .before .args .f .left) b (c .before .before .before .before .before .before .before .before .before .before .before .before .before .before .before .before .before .before .before .before .args .at) (l .i) (l .c) (l .left) (l .inv .0) (c .before .before .before .before .before .before .before .before .before .before .before .before .before .before .line-end .result) (c .before .before .before .before .before .before .before .before .before .before .before .before .before .before .line-end .ensures .0) (l .inv .1) h (omega (arith, c .before .before .before .before .before .before .before .before .before .before .before .before .before .before .before .loop-test .taken)) _ d in
+    (rw (c .before .before .before .before .behind .ensures .0) n, c .before .before .before .before .behind .ensures .1, c .before .before .before .before .before .drain .ensures, c .before .before .before .before .before .before .before .before .before .before .answer-line .kept .1 .1 .0 ∙ l .inv .3, l .inv .4)
+
+loop-less-2 : tie.Need-loop-less-2 Inv-loop μ-loop
+loop-less-2 c = omega (arith, c .before .before .before .before .before .before .before .before .before .before .before .before .before .loop-test .taken)
+
+loop-again-2 : tie.Need-loop-again-2 Inv-loop μ-loop
+loop-again-2 c =
+    let b = c .before .before .before .before .before .before .before .before .before .before .before .before .before .before .before .before .before .before .args .block .now in
+    let l = c .before .before .before .before .before .before .before .before .before .before .before .before .before .before .loop in
+    let h : c .before .before .before .before .before .before .before .before .before .before .before .before .line-end .result < length b = omega (arith, c .before .before .before .before .before .before .before .before .before .before .before .if1 .left) in
+    let d = answer-kept (l .c) (take (c .before .before .before .before .before .before .before .before .before .before .before .before .line-end .result - l .i) (drop (l .i) b)) 96 (c .before .before .before .before .before .before .before .before .answer-line .result) (c .before .before .before .before .before .before .before .before .answer-line .ensures .coded) (c .if2 .left) in
+    let n = next-line (c .before .before .before .before .before .before .before .before .before .before .before .before .before .before .before .before .before .before .args .f .cond) (c .before .before .before .before .before .before .before .before .before .before .before .before .before .before .before .before .before .before .args .f .left) b (c .before .before .before .before .before .before .before .before .before .before .before .before .before .before .before .before .before .before .args .at) (l .i) (l .c) (l .left) (l .inv .0) (c .before .before .before .before .before .before .before .before .before .before .before .before .line-end .result) (c .before .before .before .before .before .before .before .before .before .before .before .before .line-end .ensures .0) (l .inv .1) h (omega (arith, c .before .before .before .before .before .before .before .before .before .before .before .before .before .loop-test .taken)) _ d in
+    (rw (c .before .before .behind .ensures .0) n, c .before .before .behind .ensures .1, c .before .before .before .drain .ensures, c .before .before .before .before .before .before .before .before .answer-line .kept .1 .1 .0 ∙ l .inv .3, l .inv .4)
 
 same-length-2 : tie.Need-same-length-2 Inv-loop μ-loop
 same-length-2 c = search needs
 
 returns-2 : tie.Need-returns-2 Inv-loop μ-loop
 returns-2 c =
-    let b = c .before .before .before .before .before .args .block .now in
-    let at = c .before .before .before .before .before .args .at in
-    let c0 = c .before .before .before .before .before .args .f .cond in
-    let n0 = c .before .before .before .before .before .args .f .left in
     let l = c .before .loop in
-    let e = no-lines-left c0 n0 b at (l .i) (l .c) (l .left) (l .inv .0) (omega arith) in
+    let e = no-lines-left (c .before .before .before .before .before .args .f .cond) (c .before .before .before .before .before .args .f .left) (c .before .before .before .before .before .args .block .now) (c .before .before .before .before .before .args .at) (l .i) (l .c) (l .left) (l .inv .0) (omega arith) in
     (record { condition = e .condition; count = e .count }, refl, l .inv .2, l .inv .1, e .rest)
 
 pub whole-lines-spec : {M : Type 1} → statement M
@@ -93,15 +100,18 @@ whole-lines-spec =
     line-end-requires
     same-length
     returns
-    sub-reply-to
-    part-reply-to-start
-    part-reply-to-end
-    reply-to-requires
+    sub-answer-line
+    part-answer-line-start
+    part-answer-line-end
+    answer-line-requires
     add-drain
     drain-requires
     sub-left
     behind-requires
+    effect-requires
     loop-less
     loop-again
+    loop-less-2
+    loop-again-2
     same-length-2
     returns-2)

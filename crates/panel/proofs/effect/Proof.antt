@@ -1,0 +1,117 @@
+use mathlib.Core.Path.{refl, sym, _∙_}
+use Rattle.record.specs.Columns.{held}
+use Rattle.panel.specs.Judge.{judgedOf}
+use Rattle.panel.specs.Step.{outcomeOf}
+use Rattle.panel.proofs.Taking.{taken-below}
+use Rattle.panel.proofs.Effects.{ship-effect, load-effect, column-passed, column-effect, hold-passed, hold-effect, drop-passed, drop-effect, judge-same}
+use borrow.Author.Needs.{needs}
+use Rattle.panel.proofs.effect.Statement.{statement}
+use Rattle.panel.proofs.effect.Tie as tie
+
+enum-known-kind : tie.Need-enum-known-kind
+enum-known-kind c = search needs
+
+with-ship-requires : tie.Need-with-ship-requires
+with-ship-requires c κs = search needs
+
+enum-told : tie.Need-enum-told
+enum-told c = search needs
+
+with-column-requires : tie.Need-with-column-requires
+with-column-requires c κs = search needs
+
+enum-known-kind-2 : tie.Need-enum-known-kind-2
+enum-known-kind-2 c = search needs
+
+with-load-requires : tie.Need-with-load-requires
+with-load-requires c κs = search needs
+
+enum-known-kind-3 : tie.Need-enum-known-kind-3
+enum-known-kind-3 c = search needs
+
+with-hold-requires : tie.Need-with-hold-requires
+with-hold-requires c κs = search needs
+
+enum-known-kind-4 : tie.Need-enum-known-kind-4
+enum-known-kind-4 c = search needs
+
+no-hold-requires : tie.Need-no-hold-requires
+no-hold-requires c κs = search needs
+
+with-hold-requires-2 : tie.Need-with-hold-requires-2
+with-hold-requires-2 c κs = search needs
+
+enum-told-2 : tie.Need-enum-told-2
+enum-told-2 c = search needs
+
+enum-told-3 : tie.Need-enum-told-3
+enum-told-3 c = search needs
+
+empty-condition-requires : tie.Need-empty-condition-requires
+empty-condition-requires c κs = search needs
+
+enum-told-4 : tie.Need-enum-told-4
+enum-told-4 c = search needs
+
+returns : tie.Need-returns
+unfolding outcomeOf
+returns c = rw (c .before .before .kind .given .1) (λ e. c .with-ship .ensures ∙ ship-effect (c .before .before .before .before .before .before .args .c) _ e)
+
+returns-2 : tie.Need-returns-2
+unfolding outcomeOf
+returns-2 c = rw (c .before .enum-told .given .1)
+    (λ e. c .with-column .ensures (taken-below (held ((c .before .before .before .before .before .args .c) .columns)) (c .before .before .before .before .before .args .r .column) (column-passed (c .before .before .before .before .before .args .c) (c .before .before .before .before .before .args .r .column) e)) ∙ column-effect (c .before .before .before .before .before .args .c) (c .before .before .before .before .before .args .r .column) e)
+
+returns-3 : tie.Need-returns-3
+unfolding outcomeOf
+returns-3 c = rw (c .before .before .kind2 .given .1) (λ e. c .with-load .ensures ∙ load-effect (c .before .before .before .before .before .before .args .c) _ e)
+
+returns-4 : tie.Need-returns-4
+unfolding outcomeOf
+returns-4 c = rw (c .before .before .kind3 .given .1)
+    (λ e. c .with-hold .ensures (hold-passed (c .before .before .before .before .before .before .args .c) _ (c .before .before .before .before .before .before .args .r .hold) e .place) ∙ hold-effect (c .before .before .before .before .before .before .args .c) _ (c .before .before .before .before .before .before .args .r .hold) e)
+
+returns-5 : tie.Need-returns-5
+unfolding outcomeOf
+returns-5 c = rw (c .before .before .before .kind4 .given .1)
+    (λ e. c .with-hold2 .ensures (drop-passed (c .before .before .before .before .before .before .before .args .c) _ e .0) ∙ rw (c .before .no-hold .ensures) (drop-effect (c .before .before .before .before .before .before .before .args .c) _ e))
+
+returns-6 : tie.Need-returns-6
+unfolding outcomeOf
+returns-6 c = rw (c .enum-told2 .given .1) (λ e. sym (judge-same (c .before .before .before .before .args .c) (judgedOf (c .before .before .before .before .args .c))))
+
+returns-7 : tie.Need-returns-7
+unfolding outcomeOf
+returns-7 c = rw (c .before .enum-told3 .given .1) (λ e. c .empty-condition .ensures)
+
+returns-8 : tie.Need-returns-8
+unfolding outcomeOf
+returns-8 c = rw (c .enum-told4 .given .1) (λ e. refl)
+
+pub effect-spec : {M : Type 1} → statement M
+effect-spec =
+    tie.close
+    (tie.spec
+    enum-known-kind
+    with-ship-requires
+    enum-told
+    with-column-requires
+    enum-known-kind-2
+    with-load-requires
+    enum-known-kind-3
+    with-hold-requires
+    enum-known-kind-4
+    no-hold-requires
+    with-hold-requires-2
+    enum-told-2
+    enum-told-3
+    empty-condition-requires
+    enum-told-4
+    returns
+    returns-2
+    returns-3
+    returns-4
+    returns-5
+    returns-6
+    returns-7
+    returns-8)
