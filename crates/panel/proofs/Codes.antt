@@ -27,9 +27,9 @@ use Rattle.request.specs.declared.Kind.{Kind}
 use Rattle.request.specs.declared.Kind.the-variants.{ShipLine, ColumnLine, LoadLine, HoldLine, DropLine, JudgeLine, ClearLine, NoShape}
 use Rattle.panel.specs.declared.Condition.{Condition}
 use Rattle.panel.specs.declared.Judged.the-variants.{Given}
-use Rattle.panel.specs.Condition.{empty, holdAt, isHeld}
+use Rattle.panel.specs.Condition.{holdAt, isHeld}
 use Rattle.panel.specs.Operations.{taken, shipOperation, loadOperation, columnChange, columnOperation, holdOperation, dropOperation}
-use Rattle.panel.specs.Judge.{soundPlace, weight, basisAt, judgedAt, judgedOf}
+use Rattle.panel.specs.Judge.{greatestWeight, soundPlace, weight, basisAt, judgedAt, judgedOf}
 use Rattle.panel.specs.Step.{Outcome, answered, verdictGiven, outcomeBy, stepOf}
 use Rattle.panel.specs.Demands.{request, Asks, isOneOf}
 use Rattle.panel.proofs.Asked.{early, requested, heard, asks, asked}
@@ -78,9 +78,9 @@ module _ (c : Condition) where
   right-change : (k : Column) (a : Added) → Right (codesOf ColumnLine) c (answered (columnChange c k a))
   unfolding isOneOf
   right-change k Taken = right-taken c _ refl
-  right-change k Limits = right-same c 20 _ refl
-  right-change k Full = right-same c 23 _ refl
-  right-change k NotAbove = right-same c 22 _ refl
+  right-change k Limits = right-same c _ _ refl
+  right-change k Full = right-same c _ _ refl
+  right-change k NotAbove = right-same c _ _ refl
 
   judgement-listed : (j : Judgement) → isOneOf (codesOf JudgeLine) (judgementCode j) ≡ true
   unfolding isOneOf
@@ -95,29 +95,29 @@ module _ (c : Condition) where
 
   right-around : (a : Around) → Right (codesOf JudgeLine) c (verdictGiven c (judgedAt c a))
   unfolding isOneOf
-  right-around Outside = right-same c 33 _ refl
+  right-around Outside = right-same c _ _ refl
   right-around (At i) =
-      right-if c (verdictGiven c) (all soundPlace (c .holds) && leb (weight c) 1000000000)
-      (right-verdict (verdictOf (c .ship) (basisAt c i))) (right-same c 34 _ refl)
+      right-if c (verdictGiven c) (all soundPlace (c .holds) && leb (weight c) greatestWeight)
+      (right-verdict (verdictOf (c .ship) (basisAt c i))) (right-same c _ _ refl)
 
   pub right-by : (k : Kind) (h : Hold) (col : Column) → Right (codesOf k) c (outcomeBy c k h col)
   unfolding isOneOf shipOperation columnOperation loadOperation holdOperation dropOperation judgedOf
-  right-by (ShipLine s) h col = right-if c answered (shipLimits s) (right-taken c _ refl) (right-same c 20 _ refl)
+  right-by (ShipLine s) h col = right-if c answered (shipLimits s) (right-taken c _ refl) (right-same c _ _ refl)
   right-by ColumnLine h col = right-change col (columnAnswer (held (c .columns)) col)
-  right-by (LoadLine l) h col = right-if c answered (loadLimits l) (right-taken c _ refl) (right-same c 20 _ refl)
+  right-by (LoadLine l) h col = right-if c answered (loadLimits l) (right-taken c _ refl) (right-same c _ _ refl)
   right-by (HoldLine n) h col =
       right-if c answered (placeLimits n && holdLimits h)
-      (right-if c answered (holdFits h) (right-taken c _ refl) (right-same c 21 _ refl)) (right-same c 20 _ refl)
+      (right-if c answered (holdFits h) (right-taken c _ refl) (right-same c _ _ refl)) (right-same c _ _ refl)
   right-by (DropLine n) h col =
       right-if c answered (placeLimits n)
-      (right-if c answered (isHeld (holdAt c n)) (right-taken c _ refl) (right-same c 24 _ refl)) (right-same c 20 _ refl)
+      (right-if c answered (isHeld (holdAt c n)) (right-taken c _ refl) (right-same c _ _ refl)) (right-same c _ _ refl)
   right-by JudgeLine h col =
-      right-if c (verdictGiven c) (not (c .shipped && shipLimits (c .ship))) (right-same c 30 _ refl)
-      (right-if c (verdictGiven c) (not (leb 2 (length (held (c .columns))) && inOrder (held (c .columns)))) (right-same c 31 _ refl)
-      (right-if c (verdictGiven c) (not (c .loaded && loadLimits (c .load))) (right-same c 32 _ refl)
+      right-if c (verdictGiven c) (not (c .shipped && shipLimits (c .ship))) (right-same c _ _ refl)
+      (right-if c (verdictGiven c) (not (leb 2 (length (held (c .columns))) && inOrder (held (c .columns)))) (right-same c _ _ refl)
+      (right-if c (verdictGiven c) (not (c .loaded && loadLimits (c .load))) (right-same c _ _ refl)
       (right-around (columnsAround (c .load .d) (held (c .columns))))))
-  right-by ClearLine h col = right-taken c empty refl
-  right-by NoShape h col = right-same c 14 _ refl
+  right-by ClearLine h col = right-taken c _ refl
+  right-by NoShape h col = right-same c _ _ refl
 
 -- 23 is a column's alone, and 34 judge's
 pub only-column : (k : Kind) → isOneOf (codesOf k) 23 ≡ true → k ≡ ColumnLine

@@ -32,9 +32,13 @@ soundPlace h = not (isHeld h) || holdLimits h && holdFits h
 unfoldable pub placeWeight : Hold → Weights
 placeWeight h = cond (soundPlace h) (Together (weightMoment h)) TooMuch
 
--- the weight moments together, or that they are refused (34)
+-- weight moments together above this are refused (34)
+abbrev pub greatestWeight : ℕ
+greatestWeight = 1000000000
+
+-- the weight moments together, or that they are refused
 unfoldable pub weightsOf : List Hold → Weights
-weightsOf hs = cond (all soundPlace hs && leb (totalWeight hs) 1000000000) (Together (totalWeight hs)) TooMuch
+weightsOf hs = cond (all soundPlace hs && leb (totalWeight hs) greatestWeight) (Together (totalWeight hs)) TooMuch
 
 -- W, the total weight moment
 abbrev pub weight : Condition → ℕ
@@ -54,7 +58,7 @@ basisAt c i =
 abbrev pub judgedAt : Condition → Around → Judged
 judgedAt c Outside = Refused 33
 judgedAt c (At i) =
-    cond (all soundPlace (c .holds) && leb (weight c) 1000000000) (Given (verdictOf (c .ship) (basisAt c i))) (Refused 34)
+    cond (all soundPlace (c .holds) && leb (weight c) greatestWeight) (Given (verdictOf (c .ship) (basisAt c i))) (Refused 34)
 
 unfoldable pub judgedOf : Condition → Judged
 judgedOf c =
