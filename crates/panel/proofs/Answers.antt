@@ -1,8 +1,11 @@
 -- What the code of an answer says of the answer: 0 for the one that is taken, its own code for each other.
 use mathlib.Core.Path.{_≡_, refl, sym, _∙_, ap}
-use mathlib.Core.List.{List}
-use Prim.Native.Nat.{ℕ}
+use mathlib.Core.Bool.{Bool, true, false, cond}
+use mathlib.Core.List.{List, []}
+use Prim.Native.Nat.{ℕ, _≤_, _<_}
 use native.Mathlib.Omega.{arith}
+use lib.Dec.{eqb, ltb}
+use borrow.Author.Tests.{lt-ltb, le-ltb, ne-eqb, eqb-false}
 use Rattle.grain.specs.declared.Weighed.{Weighed}
 use Rattle.grain.specs.declared.Weighed.the-variants.{Weight, NoFit, Limits as Outside}
 use Rattle.grain.specs.Sum.{weighedCode}
@@ -11,8 +14,8 @@ use Rattle.text.specs.declared.Reading.the-variants.{Sound, TooLong, BadByte, N
 use Rattle.text.specs.Line.{readingCode}
 use Rattle.panel.specs.declared.Condition.{Condition}
 use Rattle.panel.specs.Operations.{Change, refusedWith}
-use Rattle.panel.specs.declared.Answered.{Answered}
-use Rattle.panel.specs.Step.{Outcome, answered, outcomeOf, outcomeAfter, stepOf}
+use Rattle.panel.specs.declared.Heard.{Heard}
+use Rattle.panel.specs.Step.{Outcome, answered, outcomeOf, outcomeAfter, heardOutcome, stepOf}
 use Rattle.panel.proofs.Taking.{chosen}
 use Rattle.panel.proofs.Demand1.{refusals-change-nothing}
 
@@ -37,12 +40,37 @@ line-sound BadByte e = absurd (omega arith)
 line-sound NotOneForm e = absurd (omega arith)
 line-sound BadNumber e = absurd (omega arith)
 
--- the condition after an answer: as it was, or by the request's effect
-module _ (c : Condition) (line : List ℕ) (n : ℕ) (r : Answered) (coded : r .code ≡ stepOf c line n .code) where
-  pub answer-kept : (r .code ≡ 0 → ⊥) → c ≡ stepOf c line n .after
-  answer-kept f = sym (refusals-change-nothing c line n (λ e. f (coded ∙ e)))
+-- what was heard, with room for a reply
+module _ (c : Condition) (h : Heard) (n : ℕ) where
+  pub heard-none : n < 96 → heardOutcome c h n ≡ record { code = 15; reply = []; after = c }
+  unfolding heardOutcome
+  heard-none p = rw (lt-ltb n 96 p)
 
-  pub answer-effect : (r .code ≡ 0 → stepOf c line n ≡ outcomeOf c (r .request)) → r .code ≡ 0 → (d : Condition) → (outcomeOf c (r .request) .code ≡ 0 → d ≡ outcomeOf c (r .request) .after) → d ≡ stepOf c line n .after
-  answer-effect asked e d f =
-      let o = asked e in
-      f (ap (λ (o : Outcome). o .code) (sym o) ∙ sym coded ∙ e) ∙ ap (λ (o : Outcome). o .after) (sym o)
+  pub heard-refused : 96 ≤ n → (h .code ≡ 0 → ⊥) → heardOutcome c h n ≡ answered (refusedWith (h .code) c)
+  unfolding heardOutcome
+  heard-refused p f = rw (le-ltb n 96 p, ne-eqb (h .code) 0 f)
+
+  pub heard-request : 96 ≤ n → h .code ≡ 0 → heardOutcome c h n ≡ outcomeOf c (h .request)
+  unfolding heardOutcome
+  heard-request p e = rw (le-ltb n 96 p, e)
+
+  -- 00 is the answer to a request
+  asked-by : (x y : Bool) → eqb (h .code) 0 ≡ y → cond x (record { code = 15; reply = []; after = c }) (cond y (outcomeOf c (h .request)) (answered (refusedWith (h .code) c))) .code ≡ 0 →
+      cond x (record { code = 15; reply = []; after = c }) (cond y (outcomeOf c (h .request)) (answered (refusedWith (h .code) c))) ≡ outcomeOf c (h .request)
+  asked-by true y t e = absurd (omega arith)
+  asked-by false true t e = refl
+  asked-by false false t e = absurd (eqb-false (h .code) 0 t e)
+
+  heard-asked : heardOutcome c h n .code ≡ 0 → heardOutcome c h n ≡ outcomeOf c (h .request)
+  unfolding heardOutcome
+  heard-asked e = asked-by (ltb n 96) (eqb (h .code) 0) refl e
+
+  -- the condition after an answer: as it was, or by the request's effect
+  module _ (line : List ℕ) (heard : heardOutcome c h n ≡ stepOf c line n) (code : ℕ) (coded : code ≡ heardOutcome c h n .code) where
+    pub answer-kept : (code ≡ 0 → ⊥) → c ≡ stepOf c line n .after
+    answer-kept f = sym (refusals-change-nothing c line n (λ e. f (coded ∙ ap (λ (o : Outcome). o .code) heard ∙ e)))
+
+    pub answer-effect : code ≡ 0 → (d : Condition) → (outcomeOf c (h .request) .code ≡ 0 → d ≡ outcomeOf c (h .request) .after) → d ≡ stepOf c line n .after
+    answer-effect e d f =
+        let o = heard-asked (sym coded ∙ e) in
+        f (ap (λ (o : Outcome). o .code) (sym o) ∙ sym coded ∙ e) ∙ ap (λ (o : Outcome). o .after) (sym o ∙ heard)

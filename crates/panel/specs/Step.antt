@@ -3,7 +3,7 @@ use mathlib.Core.Path.{_≡_}
 use mathlib.Core.Bool.{cond}
 use mathlib.Core.List.{List, [], _∷_}
 use Prim.Native.Nat.{ℕ}
-use lib.Dec.{ltb}
+use lib.Dec.{ltb, eqb}
 use Rattle.record.specs.declared.Column.{Column}
 use Rattle.record.specs.declared.Hold.{Hold}
 use Rattle.stability.specs.Verdict.{judgementCode}
@@ -21,7 +21,7 @@ use Rattle.reply.specs.Replies.{answerReply, refusalReply, verdictReply}
 use Rattle.panel.specs.declared.Condition.{Condition}
 use Rattle.panel.specs.Condition.{empty}
 use Rattle.panel.specs.declared.Replied.{Replied}
-use Rattle.panel.specs.declared.Answered.{Answered}
+use Rattle.panel.specs.declared.Heard.{Heard}
 use Rattle.panel.specs.declared.Stepped.{Stepped}
 use Rattle.panel.specs.declared.Judged.{Judged}
 use Rattle.panel.specs.declared.Judged.the-variants.{Refused, Given}
@@ -74,18 +74,17 @@ unfoldable pub stepOf : Condition → List ℕ → (n : ℕ) → Outcome
 stepOf c line n =
     cond (ltb n 96) (record { code = 15; reply = []; after = c }) (outcomeAfter c line (readingOf line))
 
+-- what was heard of a line has the line's outcome: the code that turned it down, or what its request asks for
+unfoldable pub heardOutcome : Condition → Heard → (n : ℕ) → Outcome
+heardOutcome c h n =
+    cond (ltb n 96) (record { code = 15; reply = []; after = c })
+    (cond (eqb (h .code) 0) (outcomeOf c (h .request)) (answered (refusedWith (h .code) c)))
+
 -- a code, its reply's length, and in the lent buffer the reply over its front, the bytes behind it as they were
 pub record Replies (code : ℕ) (reply : List ℕ) (r : Replied) (before after : List ℕ) : Type 0 where
   pub coded : r .code ≡ code
   pub long : r .len ≡ length reply
   pub written : after ≡ over reply before
-
--- what the program answers is this outcome's code and reply; and 00 is the answer to its request
-pub record Answers (o : Outcome) (c : Condition) (r : Answered) (before after : List ℕ) : Type 0 where
-  pub coded : r .code ≡ o .code
-  pub long : r .len ≡ length (o .reply)
-  pub written : after ≡ over (o .reply) before
-  pub asked : r .code ≡ 0 → o ≡ outcomeOf c (r .request)
 
 -- what the program hands back is this outcome: condition, code and length, and in the lent buffer the reply over its front, the
 -- bytes behind it as they were

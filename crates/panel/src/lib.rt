@@ -16,19 +16,19 @@ use stability::Verdict;
 use text::Reading;
 ghost use mathlib.Core.Path.{_≡_};
 ghost use mathlib.Core.Bool.{_&&_, true};
-ghost use Prim.Native.Nat.{_≤_, _<_};
-ghost use lib.ListN.{length};
+ghost use Prim.Native.Nat.{ℕ, _-_, _≤_, _<_};
+ghost use lib.ListN.{length, getD};
 ghost use lib.Dec.{leb};
 ghost use Rattle.record.specs.Columns.{held, inOrder, addedCode, withColumn};
 ghost use Rattle.record.specs.Limits.{placeLimits};
+ghost use Rattle.record.specs.Filler.{noHold};
 ghost use Rattle.stability.specs.Verdict.{judgementCode};
-ghost use Rattle.reply.specs.Written.{over};
 ghost use Rattle.reply.specs.Replies.{answerReply};
-ghost use Rattle.panel.specs.Condition.{empty, holdAt, isHeld, withShip, withLoad, withColumns, withHold};
+ghost use Rattle.panel.specs.Condition.{empty, isHeld, withShip, withLoad, withColumns, withHold};
 ghost use Rattle.grain.specs.Sum.{weighedCode};
 ghost use Rattle.text.specs.Line.{readingCode};
 ghost use Rattle.panel.specs.Operations.{shipOperation, loadOperation, columnOperation, holdOperation, dropOperation};
-ghost use Rattle.panel.specs.Step.{verdictGiven, outcomeOf, stepOf, Replies, Answers, Steps};
+ghost use Rattle.panel.specs.Step.{verdictGiven, outcomeOf, heardOutcome, stepOf, Replies, Steps};
 ghost use Rattle.panel.specs.Judge.{judgedOf, judgedAt, placeWeight, weightsOf, Between};
 
 // One loading condition of one ship. A place of `holds` with no parts holds no hold.
@@ -59,10 +59,9 @@ pub struct Replied {
     pub len: usize,
 }
 
-// What a line is answered, and the request that 00 is the answer to.
-pub struct Answered {
+// What is heard of a line: the code that turns it down, or 0 and its request.
+pub struct Heard {
     pub code: u8,
-    pub len: usize,
     pub request: Request,
 }
 
@@ -97,12 +96,12 @@ pub fn empty_condition() -> Condition
 }
 
 // Whether there is a hold n.
-fn is_held(c: Condition, n: u32) -> bool
+fn is_held(holds: [Hold; 16], n: u32) -> bool
     requires { ⌜ (1 ≤ n) × (n ≤ 16) ⌝ }
-    ensures { λ r. ⌜ r ≡ isHeld (holdAt c n) ⌝ }
+    ensures { λ r. ⌜ r ≡ isHeld (getD holds (n - 1) noHold) ⌝ }
 {
     let at = (n - 1) as usize;
-    let h = c.holds[at];
+    let h = holds[at];
     let head = h.head;
     0 < head.count
 }
@@ -156,13 +155,13 @@ fn place_weight(h: Hold) -> Weights
 }
 
 // The weight moments of all holds together.
-fn weights_of(c: Condition) -> Weights
-    ensures { λ r. ⌜ r ≡ weightsOf (c .holds) ⌝ }
+fn weights_of(holds: [Hold; 16]) -> Weights
+    ensures { λ r. ⌜ r ≡ weightsOf holds ⌝ }
 {
     let mut sum: u64 = 0;
     let mut i: usize = 0;
     while i < 16 {
-        let h = c.holds[i];
+        let h = holds[i];
         let Weights::Together(w) = place_weight(h) else {
             return Weights::TooMuch;
         };
@@ -187,8 +186,8 @@ fn judge_between(c: Condition, i: usize) -> Judged
     requires { ⌜ Between c i ⌝ }
     ensures { λ r. ⌜ r ≡ judgedAt c (Around.At i) ⌝ }
 {
-    let weights = weights_of(c);
-    let Weights::Together(weight) = weights else {
+    let holds = c.holds;
+    let Weights::Together(weight) = weights_of(holds) else {
         return Judged::Refused(34);
     };
     let columns = c.columns;
@@ -294,7 +293,8 @@ fn drop_code(c: Condition, n: u32) -> u8
     if !record::place_limits(n) {
         return 20;
     }
-    if !is_held(c, n) {
+    let holds = c.holds;
+    if !is_held(holds, n) {
         return 24;
     }
     0
@@ -323,6 +323,23 @@ fn reading_code(t: Reading) -> u8
         Reading::NotOneForm => 12,
         Reading::BadNumber => 13,
     }
+}
+
+// ---- the line
+
+// The tests of the whole line, and the request of one that passes them.
+pub fn hear(line: &[u8]) -> Heard
+    ensures { λ r. ⌜ ((c : Condition) (n : ℕ) → heardOutcome c r n ≡ stepOf c (now (line .entry)) n) ⌝ }
+{
+    let found = reading_code(text::reading_of(line));
+    if found != 0 {
+        return Heard {
+            code: found,
+            request: request::plain(Kind::NoShape),
+        };
+    }
+    let request = request::request_of(line);
+    Heard { code: 0, request }
 }
 
 // ---- the replies
@@ -375,46 +392,24 @@ fn reply_to(c: Condition, r: Request, out: &mut [u8]) -> Replied
     }
 }
 
-// A line that is turned down before its request is looked at.
-fn turn_down(code: u8, out: &mut [u8]) -> Answered
-    requires { ⌜ 96 ≤ length (now out) ⌝ }
-    ensures { λ r. ⌜ (r .code ≡ code) × (r .len ≡ length (answerReply code)) × (now (out .exit) ≡ over (answerReply code) (now (out .entry))) ⌝ }
-{
-    let len = reply::answer(out, code);
-    Answered {
-        code,
-        len,
-        request: request::plain(Kind::NoShape),
-    }
-}
-
-// What a line is answered: the reply at the front of the lent buffer.
-pub fn answer(c: Condition, line: &[u8], out: &mut [u8]) -> Answered
-    ensures { λ r. ⌜ Answers (stepOf c (now (line .entry)) (length (now (out .entry)))) c r (now (out .entry)) (now (out .exit)) ⌝ }
+// The reply to what was heard, at the front of the lent buffer.
+pub fn answer(c: Condition, h: Heard, out: &mut [u8]) -> Replied
+    ensures { λ r. ⌜ Replies (heardOutcome c h (length (now (out .entry))) .code) (heardOutcome c h (length (now (out .entry))) .reply) r (now (out .entry)) (now (out .exit)) ⌝ }
 {
     if out.len() < 96 {
-        return Answered {
-            code: 15,
-            len: 0,
-            request: request::plain(Kind::NoShape),
-        };
+        return Replied { code: 15, len: 0 };
     }
-    let found = reading_code(text::reading_of(line));
+    let found = h.code;
     if found != 0 {
-        return turn_down(found, out);
+        return answer_with(found, out);
     }
-    let request = request::request_of(line);
-    let a = reply_to(c, request, out);
-    Answered {
-        code: a.code,
-        len: a.len,
-        request,
-    }
+    let request = h.request;
+    reply_to(c, request, out)
 }
 
 // ---- the effects of the requests that are answered with 00
 //
-// The condition is large, and is copied wherever a function gives it: a line that is turned down, and judge, come here never.
+// The condition is large, and is copied wherever a function gives it: a line that is turned down never comes here.
 
 fn with_ship(c: Condition, s: Ship) -> Condition
     ensures { λ r. ⌜ r ≡ withShip c s ⌝ }
@@ -481,7 +476,8 @@ pub fn effect(c: Condition, r: Request) -> Condition
 pub fn step(c: Condition, line: &[u8], out: &mut [u8]) -> Stepped
     ensures { λ r. ⌜ Steps (stepOf c (now (line .entry)) (length (now (out .entry)))) r (now (out .entry)) (now (out .exit)) ⌝ }
 {
-    let a = answer(c, line, out);
+    let h = hear(line);
+    let a = answer(c, h, out);
     let code = a.code;
     let len = a.len;
     if code != 0 {
@@ -491,7 +487,7 @@ pub fn step(c: Condition, line: &[u8], out: &mut [u8]) -> Stepped
             after: c,
         };
     }
-    let request = a.request;
+    let request = h.request;
     let after = effect(c, request);
     Stepped { code, len, after }
 }

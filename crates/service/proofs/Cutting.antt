@@ -12,7 +12,8 @@ use lib.Dec.{eqb}
 use Rattle.whole.proofs.Lists.{drop-next, drop-end}
 use Rattle.reply.specs.Written.{over}
 use Rattle.panel.specs.declared.Condition.{Condition}
-use Rattle.panel.specs.Step.{stepOf, conditionAfter}
+use Rattle.panel.specs.declared.Heard.{Heard}
+use Rattle.panel.specs.Step.{heardOutcome, stepOf, conditionAfter}
 use Rattle.service.specs.Lines.{Cut, cut, ended, longer, sent}
 use Rattle.service.specs.Feeding.{lineLength}
 
@@ -82,9 +83,9 @@ cut-none [] h = refl
 cut-none (b ∷ s) h = none-by b s (eqb b 10) refl h (cut-none s)
 
 -- with room for a reply, the buffer's length makes no difference
-pub any-room : (c : Condition) (line : List ℕ) (n : ℕ) → 96 ≤ n → stepOf c line n ≡ stepOf c line 96
-unfolding stepOf
-any-room c line n h = rw (le-ltb n 96 h)
+pub any-room : (c : Condition) (h : Heard) (n : ℕ) → 96 ≤ n → heardOutcome c h n ≡ heardOutcome c h 96
+unfolding heardOutcome
+any-room c h n p = rw (le-ltb n 96 p)
 
 -- the loop stands at i, with the condition c and so many lines left: what is to come gives what was to come from `at` on
 pub record Standing (c₀ : Condition) (left₀ : ℕ) (block : List ℕ) (at i : ℕ) (c : Condition) (left : ℕ) : Type 0 where

@@ -6,9 +6,8 @@ use Prim.Native.Nat.{ℕ, suc, _+_, _-_, _≤_, _<_}
 use lib.Dec.{eqb}
 use lib.ListN.{length, take}
 use Rattle.panel.specs.Condition.{empty}
-use Rattle.panel.specs.declared.Condition.{Condition}
-use Rattle.panel.specs.declared.Answered.{Answered}
-use Rattle.panel.specs.Step.{Outcome, outcomeOf, stepOf, conditionAfter}
+use Rattle.panel.specs.declared.Replied.{Replied}
+use Rattle.panel.specs.Step.{Outcome, stepOf, conditionAfter}
 use Rattle.service.specs.declared.Feed.{Feed}
 use Rattle.service.specs.Lines.{newline, Cut, cut, linesOf, sent}
 
@@ -58,10 +57,9 @@ pub record Ready (f : Feed) (line out : List ℕ) : Type 0 where
   pub kept : f .used ≤ length line
   pub enough : length line ≡ 2001
 
--- the reply to a line goes behind those that wait in the buffer
-pub record AnsweredBehind (o : Outcome) (c : Condition) (r : Answered) (filled : ℕ) (before after : List ℕ) : Type 0 where
+-- the reply of an outcome goes behind those that wait in the buffer
+pub record RepliedBehind (o : Outcome) (r : Replied) (filled : ℕ) (before after : List ℕ) : Type 0 where
   pub coded : r .code ≡ o .code
-  pub asked : r .code ≡ 0 → o ≡ outcomeOf c (r .request)
   pub room : filled + r .len ≤ 65536
   pub waits : take (filled + r .len) after ≡ take filled before ++ o .reply
 

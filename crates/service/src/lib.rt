@@ -1,13 +1,14 @@
 // Lines from standard input to the panel, and its replies to standard output.
-use panel::Answered;
 use panel::Condition;
+use panel::Heard;
+use panel::Replied;
 ghost use mathlib.Core.Path.{_≡_};
 ghost use mathlib.Core.List.{[], _++_};
 ghost use Prim.Native.Nat.{ℕ, _+_, _-_, _≤_, _<_};
 ghost use lib.ListN.{length, take, drop};
-ghost use Rattle.panel.specs.Step.{stepOf};
+ghost use Rattle.panel.specs.Step.{heardOutcome};
 ghost use Rattle.service.specs.Lines.{cut};
-ghost use Rattle.service.specs.Feeding.{lineLength, Fed, Stands, Moves, Ends, Ready, AnsweredBehind, KeptTaken, FirstMoved};
+ghost use Rattle.service.specs.Feeding.{lineLength, Fed, Stands, Moves, Ends, Ready, RepliedBehind, KeptTaken, FirstMoved};
 
 // What goes from block to block, beside the kept bytes of a line and the output: the condition, the lines that may still be
 // taken, how many bytes of a line that has begun are kept, how many bytes of replies wait, and whether the output takes them.
@@ -117,11 +118,11 @@ fn keep(line: &mut [u8], used: usize, piece: &[u8]) -> usize
 }
 
 // One line: its reply goes behind those that wait.
-fn answer_line(c: Condition, line: &[u8], out: &mut [u8], filled: usize) -> Answered
+fn answer_line(c: Condition, h: Heard, out: &mut [u8], filled: usize) -> Replied
     requires { ⌜ (filled ≤ 65000) × (length (now out) ≡ 65536) ⌝ }
-    ensures { λ r. ⌜ AnsweredBehind (stepOf c (now (line .entry)) 96) c r filled (now (out .entry)) (now (out .exit)) ⌝ }
+    ensures { λ r. ⌜ RepliedBehind (heardOutcome c h 96) r filled (now (out .entry)) (now (out .exit)) ⌝ }
 {
-    panel::answer(c, line, &mut out[filled..])
+    panel::answer(c, h, &mut out[filled..])
 }
 
 // Takes the lines of a block from `at` on, up to the last that byte 10 ends.
@@ -147,14 +148,15 @@ fn whole_lines(f: Feed, block: &[u8], at: usize, out: &mut [u8]) -> Taken
             };
             return Taken { feed, at: i };
         }
-        let r = answer_line(c, &block[i..e], out, filled);
+        let h = panel::hear(&block[i..e]);
+        let r = answer_line(c, h, out, filled);
         let w = drain(out, filled + r.len, going);
         filled = w.filled;
         going = w.going;
         left -= 1;
         i = behind(block, e);
         if r.code == 0 {
-            let q = r.request;
+            let q = h.request;
             c = panel::effect(c, q);
         }
     }
@@ -183,7 +185,8 @@ fn take_kept(f: Feed, line: &[u8], out: &mut [u8]) -> Feed
     }
     let filled = f.filled;
     let c = f.cond;
-    let r = answer_line(c, &line[..used], out, filled);
+    let h = panel::hear(&line[..used]);
+    let r = answer_line(c, h, out, filled);
     let w = drain(out, filled + r.len, f.going);
     let mut g = Feed {
         cond: c,
@@ -193,7 +196,7 @@ fn take_kept(f: Feed, line: &[u8], out: &mut [u8]) -> Feed
         going: w.going,
     };
     if r.code == 0 {
-        let q = r.request;
+        let q = h.request;
         g.cond = panel::effect(c, q);
     }
     g

@@ -17,15 +17,15 @@ cast-at c = search needs
 mul-h : tie.Need-mul-h
 mul-h c = search needs
 
-element-copy-out-h : tie.Need-element-copy-out-h
-element-copy-out-h c = search needs
+array-copy-out-h : tie.Need-array-copy-out-h
+array-copy-out-h c = search needs
 
 returns : tie.Need-returns
 returns c =
-    let hs = c .before .before .before .args .t1 .holds in
+    let hs = c .before .before .before .args .t1 in
     let n = c .before .before .before .args .n in
     let l : length hs ≡ 16 = search (unmapped, needs) in
     ap (ltb 0) (sym (count-at hs n l (c .before .before .before .pre)))
 
 pub is-held-spec : {M : Type 1} → statement M
-is-held-spec = tie.close (tie.spec sub-at cast-at mul-h element-copy-out-h returns)
+is-held-spec = tie.close (tie.spec sub-at cast-at mul-h array-copy-out-h returns)

@@ -12,60 +12,60 @@ use Rattle.panel.proofs.judge_between.Tie as tie
 weights-of-requires : tie.Need-weights-of-requires
 weights-of-requires c κs = search needs
 
-enum-known-weights : tie.Need-enum-known-weights
-enum-known-weights c = search needs
+enum-known-weight : tie.Need-enum-known-weight
+enum-known-weight c = search needs
 
 enum-told : tie.Need-enum-told
 enum-told c = search needs
 
 returns : tie.Need-returns
-returns c = rw (weights-refused (c .before .before .before .args .c .holds) (sym (c .before .before .weights-of .ensures) ∙ c .enum-told .given .1))
+returns c = rw (weights-refused (c .before .before .before .before .args .c .holds) (sym (c .before .before .weights-of .ensures) ∙ c .enum-told .given .1))
 
 mul-first : tie.Need-mul-first
 mul-first c =
-    let cs = c .before .before .before .before .before .args .c .columns in
-    let i = c .before .before .before .before .before .args .i in
-    let p = c .before .before .before .before .before .pre in
-    let st = around-at (c .before .before .before .before .before .args .c .load .d) (held cs) i (p .ordered) (p .around) in
+    let cs = c .before .before .before .before .before .before .args .c .columns in
+    let i = c .before .before .before .before .before .before .args .i in
+    let p = c .before .before .before .before .before .before .pre in
+    let st = around-at (c .before .before .before .before .before .before .args .c .load .d) (held cs) i (p .ordered) (p .around) in
     let q = in-places cs i (p .places) (st .place) in
     let b = q .below in
     search needs
 
 element-copy-out-first : tie.Need-element-copy-out-first
 element-copy-out-first c =
-    let cs = c .before .before .before .before .before .args .c .columns in
-    let i = c .before .before .before .before .before .args .i in
-    let p = c .before .before .before .before .before .pre in
-    let st = around-at (c .before .before .before .before .before .args .c .load .d) (held cs) i (p .ordered) (p .around) in
+    let cs = c .before .before .before .before .before .before .args .c .columns in
+    let i = c .before .before .before .before .before .before .args .i in
+    let p = c .before .before .before .before .before .before .pre in
+    let st = around-at (c .before .before .before .before .before .before .args .c .load .d) (held cs) i (p .ordered) (p .around) in
     let q = in-places cs i (p .places) (st .place) in
     omega (arith, q .below)
 
 add-second : tie.Need-add-second
 add-second c =
-    let cs = c .before .before .before .before .before .before .args .c .columns in
-    let i = c .before .before .before .before .before .before .args .i in
-    let p = c .before .before .before .before .before .before .pre in
-    let st = around-at (c .before .before .before .before .before .before .args .c .load .d) (held cs) i (p .ordered) (p .around) in
+    let cs = c .before .before .before .before .before .before .before .args .c .columns in
+    let i = c .before .before .before .before .before .before .before .args .i in
+    let p = c .before .before .before .before .before .before .before .pre in
+    let st = around-at (c .before .before .before .before .before .before .before .args .c .load .d) (held cs) i (p .ordered) (p .around) in
     let q = in-places cs i (p .places) (st .place) in
     let b = q .below in
     search needs
 
 mul-second : tie.Need-mul-second
 mul-second c =
-    let cs = c .before .before .before .before .before .before .args .c .columns in
-    let i = c .before .before .before .before .before .before .args .i in
-    let p = c .before .before .before .before .before .before .pre in
-    let st = around-at (c .before .before .before .before .before .before .args .c .load .d) (held cs) i (p .ordered) (p .around) in
+    let cs = c .before .before .before .before .before .before .before .args .c .columns in
+    let i = c .before .before .before .before .before .before .before .args .i in
+    let p = c .before .before .before .before .before .before .before .pre in
+    let st = around-at (c .before .before .before .before .before .before .before .args .c .load .d) (held cs) i (p .ordered) (p .around) in
     let q = in-places cs i (p .places) (st .place) in
     let b = q .below in
     search needs
 
 element-copy-out-second : tie.Need-element-copy-out-second
 element-copy-out-second c =
-    let cs = c .before .before .before .before .before .before .args .c .columns in
-    let i = c .before .before .before .before .before .before .args .i in
-    let p = c .before .before .before .before .before .before .pre in
-    let st = around-at (c .before .before .before .before .before .before .args .c .load .d) (held cs) i (p .ordered) (p .around) in
+    let cs = c .before .before .before .before .before .before .before .args .c .columns in
+    let i = c .before .before .before .before .before .before .before .args .i in
+    let p = c .before .before .before .before .before .before .before .pre in
+    let st = around-at (c .before .before .before .before .before .before .before .args .c .load .d) (held cs) i (p .ordered) (p .around) in
     let q = in-places cs i (p .places) (st .place) in
     omega (arith, q .below)
 
@@ -77,12 +77,12 @@ of-ten-requires-2 c κs = search needs
 
 judge-requires : tie.Need-judge-requires
 judge-requires c κs =
-    let cs = c .before .before .before .before .before .before .before .before .before .before .before .args .c .columns in
-    let i = c .before .before .before .before .before .before .before .before .before .before .before .args .i in
-    let p = c .before .before .before .before .before .before .before .before .before .before .before .pre in
-    let st = around-at (c .before .before .before .before .before .before .before .before .before .before .before .args .c .load .d) (held cs) i (p .ordered) (p .around) in
+    let cs = c .before .before .before .before .before .before .before .before .before .before .before .before .args .c .columns in
+    let i = c .before .before .before .before .before .before .before .before .before .before .before .before .args .i in
+    let p = c .before .before .before .before .before .before .before .before .before .before .before .before .pre in
+    let st = around-at (c .before .before .before .before .before .before .before .before .before .before .before .before .args .c .load .d) (held cs) i (p .ordered) (p .around) in
     let q = in-places cs i (p .places) (st .place) in
-    let w = weights-together (c .before .before .before .before .before .before .before .before .before .before .before .args .c .holds) (c .before .before .before .before .before .before .before .before .weights .given .0 .0) (sym (c .before .before .before .before .before .before .before .before .before .before .weights-of .ensures) ∙ c .before .before .before .before .before .before .before .before .weights .given .1) in
+    let w = weights-together (c .before .before .before .before .before .before .before .before .before .before .before .before .args .c .holds) (c .before .before .before .before .before .before .before .before .weight .given .0 .0) (sym (c .before .before .before .before .before .before .before .before .before .before .weights-of .ensures) ∙ c .before .before .before .before .before .before .before .before .weight .given .1) in
     let e1 = c .before .before .before .of-ten .ensures in
     let e2 = c .before .before .of-ten2 .ensures in
     record {
@@ -99,12 +99,12 @@ judge-requires c κs =
 
 returns-2 : tie.Need-returns-2
 returns-2 c =
-    let cs = c .before .before .before .before .before .before .before .before .before .before .before .before .args .c .columns in
-    let i = c .before .before .before .before .before .before .before .before .before .before .before .before .args .i in
-    let p = c .before .before .before .before .before .before .before .before .before .before .before .before .pre in
-    let st = around-at (c .before .before .before .before .before .before .before .before .before .before .before .before .args .c .load .d) (held cs) i (p .ordered) (p .around) in
+    let cs = c .before .before .before .before .before .before .before .before .before .before .before .before .before .args .c .columns in
+    let i = c .before .before .before .before .before .before .before .before .before .before .before .before .before .args .i in
+    let p = c .before .before .before .before .before .before .before .before .before .before .before .before .before .pre in
+    let st = around-at (c .before .before .before .before .before .before .before .before .before .before .before .before .before .args .c .load .d) (held cs) i (p .ordered) (p .around) in
     let q = in-places cs i (p .places) (st .place) in
-    let w = weights-together (c .before .before .before .before .before .before .before .before .before .before .before .before .args .c .holds) (c .before .before .before .before .before .before .before .before .before .weights .given .0 .0) (sym (c .before .before .before .before .before .before .before .before .before .before .before .weights-of .ensures) ∙ c .before .before .before .before .before .before .before .before .before .weights .given .1) in
+    let w = weights-together (c .before .before .before .before .before .before .before .before .before .before .before .before .before .args .c .holds) (c .before .before .before .before .before .before .before .before .before .weight .given .0 .0) (sym (c .before .before .before .before .before .before .before .before .before .before .before .weights-of .ensures) ∙ c .before .before .before .before .before .before .before .before .before .weight .given .1) in
     let e1 = c .before .before .before .before .of-ten .ensures in
     let e2 = c .before .before .before .of-ten2 .ensures in
     rw (w .0, c .judge .ensures, e1 .0, e2 .0, w .1, ← q .low, ← q .high, add-one)
@@ -114,7 +114,7 @@ judge-between-spec =
     tie.close
     (tie.spec
     weights-of-requires
-    enum-known-weights
+    enum-known-weight
     enum-told
     returns
     mul-first

@@ -4,6 +4,9 @@ use borrow.Author.Needs.{needs}
 use Rattle.panel.proofs.step.Statement.{statement}
 use Rattle.panel.proofs.step.Tie as tie
 
+hear-requires : tie.Need-hear-requires
+hear-requires c κs = search needs
+
 answer-requires : tie.Need-answer-requires
 answer-requires c κs = search needs
 
@@ -13,7 +16,8 @@ same-length c = search needs
 returns : tie.Need-returns
 returns c =
     let a = c .before .before .before .answer .ensures in
-    record { condition = answer-kept (c .before .before .before .before .before .before .before .args .c) (c .before .before .before .before .before .before .before .args .line .now) (length (c .before .before .before .before .before .before .before .args .out .now)) (c .before .before .before .answer .result) (a .coded) (c .if1 .taken); coded = a .coded; long = a .long; written = a .written }
+    let e = c .before .before .before .before .before .hear .ensures (c .before .before .before .before .before .before .before .before .args .c) (length (c .before .before .before .before .before .before .before .before .args .out .now)) in
+    rw (← e) (record { condition = rw e (answer-kept (c .before .before .before .before .before .before .before .before .args .c) (c .before .before .before .before .before .hear .result) (length (c .before .before .before .before .before .before .before .before .args .out .now)) (c .before .before .before .before .before .before .before .before .args .line .now) e (c .before .before .before .answer .result .code) (a .coded) (c .if1 .taken)); coded = a .coded; long = a .long; written = a .written })
 
 effect-requires : tie.Need-effect-requires
 effect-requires c κs = search needs
@@ -24,14 +28,22 @@ same-length-2 c = search needs
 returns-2 : tie.Need-returns-2
 returns-2 c =
     let a = c .before .before .before .before .before .answer .ensures in
-    record {
-      condition = answer-effect (c .before .before .before .before .before .before .before .before .before .args .c) (c .before .before .before .before .before .before .before .before .before .args .line .now) (length (c .before .before .before .before .before .before .before .before .before .args .out .now)) (c .before .before .before .before .before .answer .result) (a .coded) (a .asked) (c .before .before .if1 .left) _ (c .effect .ensures);
+    let e = c .before .before .before .before .before .before .before .hear .ensures (c .before .before .before .before .before .before .before .before .before .before .args .c) (length (c .before .before .before .before .before .before .before .before .before .before .args .out .now)) in
+    rw (← e) (record {
+      condition = rw e (answer-effect (c .before .before .before .before .before .before .before .before .before .before .args .c) (c .before .before .before .before .before .before .before .hear .result) (length (c .before .before .before .before .before .before .before .before .before .before .args .out .now)) (c .before .before .before .before .before .before .before .before .before .before .args .line .now) e (c .before .before .before .before .before .answer .result .code) (a .coded) (c .before .before .if1 .left) (c .effect .result) (c .effect .ensures));
       coded = a .coded;
       long = a .long;
       written = a .written;
-    }
+    })
 
 pub step-spec : {M : Type 1} → statement M
 step-spec =
     tie.close
-    (tie.spec answer-requires same-length returns effect-requires same-length-2 returns-2)
+    (tie.spec
+    hear-requires
+    answer-requires
+    same-length
+    returns
+    effect-requires
+    same-length-2
+    returns-2)

@@ -10,22 +10,22 @@ use Rattle.panel.proofs.weights_of.Statement.{statement}
 use Rattle.panel.proofs.weights_of.Tie as tie
 
 abbrev Inv-loop : tie.InvT-loop
-Inv-loop c sum₀ i₀ sum i = Standing (c .holds) i sum × (sum ≤ 1000000000) × (i ≤ 16)
+Inv-loop holds sum₀ i₀ sum i = Standing holds i sum × (sum ≤ 1000000000) × (i ≤ 16)
 
 abbrev μ-loop : tie.MeasureT-loop
-μ-loop c sum₀ i₀ sum i = 16 - i
+μ-loop holds sum₀ i₀ sum i = 16 - i
 
 loop-holds : tie.Need-loop-holds Inv-loop μ-loop
 loop-holds c =
-    let hs = c .args .t1 .holds in
+    let hs = c .args .t1 in
     let l : length hs ≡ 16 = search (unmapped, needs) in
     (standing-first hs l, omega arith, omega arith)
 
 mul-h : tie.Need-mul-h Inv-loop μ-loop
 mul-h c = search needs
 
-element-copy-out-h : tie.Need-element-copy-out-h Inv-loop μ-loop
-element-copy-out-h c = search needs
+array-copy-out-h : tie.Need-array-copy-out-h Inv-loop μ-loop
+array-copy-out-h c = search needs
 
 place-weight-requires : tie.Need-place-weight-requires Inv-loop μ-loop
 place-weight-requires c κs = search needs
@@ -38,7 +38,7 @@ enum-told c = search needs
 
 returns : tie.Need-returns Inv-loop μ-loop
 returns c =
-    let hs = c .before .before .before .before .before .before .args .t1 .holds in
+    let hs = c .before .before .before .before .before .before .args .t1 in
     let i = c .before .before .before .before .before .loop .i in
     let sum = c .before .before .before .before .before .loop .sum in
     let v = c .before .before .before .before .before .loop .inv in
@@ -49,7 +49,7 @@ sub-if1 c = search needs
 
 returns-2 : tie.Need-returns-2 Inv-loop μ-loop
 returns-2 c =
-    let hs = c .before .before .before .before .before .before .before .before .args .t1 .holds in
+    let hs = c .before .before .before .before .before .before .before .before .args .t1 in
     let i = c .before .before .before .before .before .before .before .loop .i in
     let sum = c .before .before .before .before .before .before .before .loop .sum in
     let v = c .before .before .before .before .before .before .before .loop .inv in
@@ -68,7 +68,7 @@ loop-less c = search needs
 
 loop-again : tie.Need-loop-again Inv-loop μ-loop
 loop-again c =
-    let hs = c .before .before .before .before .before .before .before .before .args .t1 .holds in
+    let hs = c .before .before .before .before .before .before .before .before .args .t1 in
     let i = c .before .before .before .before .before .before .before .loop .i in
     let sum = c .before .before .before .before .before .before .before .loop .sum in
     let v = c .before .before .before .before .before .before .before .loop .inv in
@@ -79,7 +79,7 @@ loop-again c =
 
 returns-3 : tie.Need-returns-3 Inv-loop μ-loop
 returns-3 c =
-    let hs = c .before .before .args .t1 .holds in
+    let hs = c .before .before .args .t1 in
     let i = c .before .loop .i in
     let sum = c .before .loop .sum in
     let v = c .before .loop .inv in
@@ -93,7 +93,7 @@ weights-of-spec =
     μ-loop
     loop-holds
     mul-h
-    element-copy-out-h
+    array-copy-out-h
     place-weight-requires
     enum-known-w
     enum-told

@@ -25,20 +25,20 @@ same-length c = search needs
 
 returns : tie.Need-returns
 returns c =
-    let l = c .before .before .before .before .before .before .args .out .now in
-    let n = c .before .before .before .before .before .before .args .filled in
+    let l = c .before .before .before .before .before .args .out .now in
+    let n = c .before .before .before .before .before .args .filled in
     let part = take (length l - n) (drop n l) in
     let d = length-drop n l in
     let m = length-take-le (length l - n) (drop n l) (omega arith) in
-    let r : 96 ≤ length part = omega (arith, c .before .before .before .before .before .before .pre) in
+    let r : 96 ≤ length part = omega (arith, c .before .before .before .before .before .pre) in
     let e = c .before .before .answer .ensures in
-    let a = any-room (c .before .before .before .before .before .before .args .c) (c .before .before .before .before .before .before .args .line .now) (length part) r in
+    let a = any-room (c .before .before .before .before .before .args .c) (c .before .before .before .before .before .args .h) (length part) r in
     let w = over-fits _ part _ (e .written) (c .before .before .answer .kept .1 .1 .0) in
-    rw (← a) (record {
+    rw (← a)
+    (record {
       coded = e .coded;
-      asked = e .asked;
-      room = omega (arith, e .long, w, m, c .before .before .before .before .before .before .pre);
-      waits = rw (e .written) (reply-waits l part _ _ n _ (omega (arith, c .before .before .before .before .before .before .pre)) (e .long));
+      room = omega (arith, e .long, w, m, c .before .before .before .before .before .pre);
+      waits = rw (e .written) (reply-waits l part _ _ n _ (omega (arith, c .before .before .before .before .before .pre)) (e .long));
     })
 
 pub answer-line-spec : {M : Type 1} → statement M

@@ -13,8 +13,11 @@ returns c = (search needs, record { taken = λ p u. absurd (omega arith); none =
 returns-2 : tie.Need-returns-2
 returns-2 c = (search needs, record { taken = λ p u. absurd (omega arith); none = λ e. refl; full = λ e. refl })
 
-slice-aggregate-answer-line : tie.Need-slice-aggregate-answer-line
-slice-aggregate-answer-line c = sym (length-take-le _ _ (omega (arith, c .before .before .before .before .before .before .pre .kept)))
+slice-aggregate-hear : tie.Need-slice-aggregate-hear
+slice-aggregate-hear c = sym (length-take-le _ _ (omega (arith, c .before .before .before .before .before .before .pre .kept)))
+
+hear-requires : tie.Need-hear-requires
+hear-requires c κs = search needs
 
 answer-line-requires : tie.Need-answer-line-requires
 answer-line-requires c κs = search needs
@@ -25,8 +28,8 @@ add-drain c = search needs
 drain-requires : tie.Need-drain-requires
 drain-requires c κs = search needs
 
-sub-t20 : tie.Need-sub-t20
-sub-t20 c = search needs
+sub-t21 : tie.Need-sub-t21
+sub-t21 c = search needs
 
 effect-requires : tie.Need-effect-requires
 effect-requires c κs = search needs
@@ -36,11 +39,11 @@ same-length c = search needs
 
 returns-3 : tie.Need-returns-3
 returns-3 c = (
-  record { waits = c .before .before .before .before .drain .ensures; room = c .before .before .before .before .before .before .before .before .before .answer-line .kept .1 .1 .0 ∙ c .before .before .before .before .before .before .before .before .before .before .before .before .before .before .before .before .before .pre .room; kept = omega arith; enough = c .before .before .before .before .before .before .before .before .before .before .before .before .before .before .before .before .before .pre .enough },
+  record { waits = c .before .before .before .before .drain .ensures; room = c .before .before .before .before .before .before .before .before .before .answer-line .kept .1 .1 .0 ∙ c .before .before .before .before .before .before .before .before .before .before .before .before .before .before .before .before .before .before .pre .room; kept = omega arith; enough = c .before .before .before .before .before .before .before .before .before .before .before .before .before .before .before .before .before .before .pre .enough },
   record {
-    taken = λ p u. record { condition = answer-effect (c .before .before .before .before .before .before .before .before .before .before .before .before .before .before .before .before .before .args .f .cond) (take (c .before .before .before .before .before .before .before .before .before .before .before .before .before .before .before .before .before .args .f .used) (c .before .before .before .before .before .before .before .before .before .before .before .before .before .before .before .before .before .args .line .now)) 96 (c .before .before .before .before .before .before .before .before .before .answer-line .result) (c .before .before .before .before .before .before .before .before .before .answer-line .ensures .coded) (c .before .before .before .before .before .before .before .before .before .answer-line .ensures .asked) (c .before .before .if3 .taken) _ (c .effect .ensures); count = refl; none = refl };
-    none = λ e. absurd (c .before .before .before .before .before .before .before .before .before .before .before .before .before .before .if1 .left e);
-    full = λ e. absurd (c .before .before .before .before .before .before .before .before .before .before .before .before .before .if2 .left e);
+    taken = λ p u. record { condition = answer-effect (c .before .before .before .before .before .before .before .before .before .before .before .before .before .before .before .before .before .before .args .f .cond) (c .before .before .before .before .before .before .before .before .before .before .before .hear .result) 96 (take (c .before .before .before .before .before .before .before .before .before .before .before .before .before .before .before .before .before .before .args .f .used) (c .before .before .before .before .before .before .before .before .before .before .before .before .before .before .before .before .before .before .args .line .now)) (c .before .before .before .before .before .before .before .before .before .before .before .hear .ensures (c .before .before .before .before .before .before .before .before .before .before .before .before .before .before .before .before .before .before .args .f .cond) 96) (c .before .before .before .before .before .before .before .before .before .answer-line .result .code) (c .before .before .before .before .before .before .before .before .before .answer-line .ensures .coded) (c .before .before .if3 .taken) (c .effect .result) (c .effect .ensures); count = refl; none = refl };
+    none = λ e. absurd (c .before .before .before .before .before .before .before .before .before .before .before .before .before .before .before .if1 .left e);
+    full = λ e. absurd (c .before .before .before .before .before .before .before .before .before .before .before .before .before .before .if2 .left e);
   },
 )
 
@@ -49,11 +52,11 @@ same-length-2 c = search needs
 
 returns-4 : tie.Need-returns-4
 returns-4 c = (
-  record { waits = c .before .before .drain .ensures; room = c .before .before .before .before .before .before .before .answer-line .kept .1 .1 .0 ∙ c .before .before .before .before .before .before .before .before .before .before .before .before .before .before .before .pre .room; kept = omega arith; enough = c .before .before .before .before .before .before .before .before .before .before .before .before .before .before .before .pre .enough },
+  record { waits = c .before .before .drain .ensures; room = c .before .before .before .before .before .before .before .answer-line .kept .1 .1 .0 ∙ c .before .before .before .before .before .before .before .before .before .before .before .before .before .before .before .before .pre .room; kept = omega arith; enough = c .before .before .before .before .before .before .before .before .before .before .before .before .before .before .before .before .pre .enough },
   record {
-    taken = λ p u. record { condition = answer-kept (c .before .before .before .before .before .before .before .before .before .before .before .before .before .before .before .args .f .cond) (take (c .before .before .before .before .before .before .before .before .before .before .before .before .before .before .before .args .f .used) (c .before .before .before .before .before .before .before .before .before .before .before .before .before .before .before .args .line .now)) 96 (c .before .before .before .before .before .before .before .answer-line .result) (c .before .before .before .before .before .before .before .answer-line .ensures .coded) (c .if3 .left); count = refl; none = refl };
-    none = λ e. absurd (c .before .before .before .before .before .before .before .before .before .before .before .before .if1 .left e);
-    full = λ e. absurd (c .before .before .before .before .before .before .before .before .before .before .before .if2 .left e);
+    taken = λ p u. record { condition = answer-kept (c .before .before .before .before .before .before .before .before .before .before .before .before .before .before .before .before .args .f .cond) (c .before .before .before .before .before .before .before .before .before .hear .result) 96 (take (c .before .before .before .before .before .before .before .before .before .before .before .before .before .before .before .before .args .f .used) (c .before .before .before .before .before .before .before .before .before .before .before .before .before .before .before .before .args .line .now)) (c .before .before .before .before .before .before .before .before .before .hear .ensures (c .before .before .before .before .before .before .before .before .before .before .before .before .before .before .before .before .args .f .cond) 96) (c .before .before .before .before .before .before .before .answer-line .result .code) (c .before .before .before .before .before .before .before .answer-line .ensures .coded) (c .if3 .left); count = refl; none = refl };
+    none = λ e. absurd (c .before .before .before .before .before .before .before .before .before .before .before .before .before .if1 .left e);
+    full = λ e. absurd (c .before .before .before .before .before .before .before .before .before .before .before .before .if2 .left e);
   },
 )
 
@@ -63,11 +66,12 @@ take-kept-spec =
     (tie.spec
     returns
     returns-2
-    slice-aggregate-answer-line
+    slice-aggregate-hear
+    hear-requires
     answer-line-requires
     add-drain
     drain-requires
-    sub-t20
+    sub-t21
     effect-requires
     same-length
     returns-3

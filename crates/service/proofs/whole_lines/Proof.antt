@@ -30,14 +30,17 @@ returns c =
     let e = no-further-line (c .before .before .before .before .before .before .before .args .f .cond) (c .before .before .before .before .before .before .before .args .f .left) b (c .before .before .before .before .before .before .before .args .at) (l .i) (l .c) (l .left) (l .inv .0) (c .before .line-end .result) (c .before .line-end .ensures .0) (l .inv .1) (search needs) in
     (record { condition = e .condition; count = e .count }, refl, l .inv .2, l .inv .1, e .rest)
 
-sub-answer-line : tie.Need-sub-answer-line Inv-loop μ-loop
-sub-answer-line c = search needs
+sub-hear : tie.Need-sub-hear Inv-loop μ-loop
+sub-hear c = search needs
 
-part-answer-line-start : tie.Need-part-answer-line-start Inv-loop μ-loop
-part-answer-line-start c = search needs
+part-hear-start : tie.Need-part-hear-start Inv-loop μ-loop
+part-hear-start c = search needs
 
-part-answer-line-end : tie.Need-part-answer-line-end Inv-loop μ-loop
-part-answer-line-end c = search needs
+part-hear-end : tie.Need-part-hear-end Inv-loop μ-loop
+part-hear-end c = search needs
+
+hear-requires : tie.Need-hear-requires Inv-loop μ-loop
+hear-requires c κs = search needs
 
 answer-line-requires : tie.Need-answer-line-requires Inv-loop μ-loop
 answer-line-requires c κs = search needs
@@ -58,27 +61,27 @@ effect-requires : tie.Need-effect-requires Inv-loop μ-loop
 effect-requires c κs = search needs
 
 loop-less : tie.Need-loop-less Inv-loop μ-loop
-loop-less c = omega (arith, c .before .before .before .before .before .before .before .before .before .before .before .before .before .before .before .loop-test .taken)
+loop-less c = omega (arith, c .before .before .before .before .before .before .before .before .before .before .before .before .before .before .before .before .loop-test .taken)
 
 loop-again : tie.Need-loop-again Inv-loop μ-loop
 loop-again c =
-    let b = c .before .before .before .before .before .before .before .before .before .before .before .before .before .before .before .before .before .before .before .before .args .block .now in
-    let l = c .before .before .before .before .before .before .before .before .before .before .before .before .before .before .before .before .loop in
-    let h : c .before .before .before .before .before .before .before .before .before .before .before .before .before .before .line-end .result < length b = omega (arith, c .before .before .before .before .before .before .before .before .before .before .before .before .before .if1 .left) in
-    let d = answer-effect (l .c) (take (c .before .before .before .before .before .before .before .before .before .before .before .before .before .before .line-end .result - l .i) (drop (l .i) b)) 96 (c .before .before .before .before .before .before .before .before .before .before .answer-line .result) (c .before .before .before .before .before .before .before .before .before .before .answer-line .ensures .coded) (c .before .before .before .before .before .before .before .before .before .before .answer-line .ensures .asked) (c .before .before .if2 .taken) _ (c .effect .ensures) in
-    let n = next-line (c .before .before .before .before .before .before .before .before .before .before .before .before .before .before .before .before .before .before .before .before .args .f .cond) (c .before .before .before .before .before .before .before .before .before .before .before .before .before .before .before .before .before .before .before .before .args .f .left) b (c .before .before .before .before .before .before .before .before .before .before .before .before .before .before .before .before .before .before .before .before .args .at) (l .i) (l .c) (l .left) (l .inv .0) (c .before .before .before .before .before .before .before .before .before .before .before .before .before .before .line-end .result) (c .before .before .before .before .before .before .before .before .before .before .before .before .before .before .line-end .ensures .0) (l .inv .1) h (omega (arith, c .before .before .before .before .before .before .before .before .before .before .before .before .before .before .before .loop-test .taken)) _ d in
+    let b = c .before .before .before .before .before .before .before .before .before .before .before .before .before .before .before .before .before .before .before .before .before .args .block .now in
+    let l = c .before .before .before .before .before .before .before .before .before .before .before .before .before .before .before .before .before .loop in
+    let h : c .before .before .before .before .before .before .before .before .before .before .before .before .before .before .before .line-end .result < length b = omega (arith, c .before .before .before .before .before .before .before .before .before .before .before .before .before .before .if1 .left) in
+    let d = answer-effect (l .c) (c .before .before .before .before .before .before .before .before .before .before .before .before .hear .result) 96 (take (c .before .before .before .before .before .before .before .before .before .before .before .before .before .before .before .line-end .result - l .i) (drop (l .i) b)) (c .before .before .before .before .before .before .before .before .before .before .before .before .hear .ensures (l .c) 96) (c .before .before .before .before .before .before .before .before .before .before .answer-line .result .code) (c .before .before .before .before .before .before .before .before .before .before .answer-line .ensures .coded) (c .before .before .if2 .taken) (c .effect .result) (c .effect .ensures) in
+    let n = next-line (c .before .before .before .before .before .before .before .before .before .before .before .before .before .before .before .before .before .before .before .before .before .args .f .cond) (c .before .before .before .before .before .before .before .before .before .before .before .before .before .before .before .before .before .before .before .before .before .args .f .left) b (c .before .before .before .before .before .before .before .before .before .before .before .before .before .before .before .before .before .before .before .before .before .args .at) (l .i) (l .c) (l .left) (l .inv .0) (c .before .before .before .before .before .before .before .before .before .before .before .before .before .before .before .line-end .result) (c .before .before .before .before .before .before .before .before .before .before .before .before .before .before .before .line-end .ensures .0) (l .inv .1) h (omega (arith, c .before .before .before .before .before .before .before .before .before .before .before .before .before .before .before .before .loop-test .taken)) _ d in
     (rw (c .before .before .before .before .behind .ensures .0) n, c .before .before .before .before .behind .ensures .1, c .before .before .before .before .before .drain .ensures, c .before .before .before .before .before .before .before .before .before .before .answer-line .kept .1 .1 .0 ∙ l .inv .3, l .inv .4)
 
 loop-less-2 : tie.Need-loop-less-2 Inv-loop μ-loop
-loop-less-2 c = omega (arith, c .before .before .before .before .before .before .before .before .before .before .before .before .before .loop-test .taken)
+loop-less-2 c = omega (arith, c .before .before .before .before .before .before .before .before .before .before .before .before .before .before .loop-test .taken)
 
 loop-again-2 : tie.Need-loop-again-2 Inv-loop μ-loop
 loop-again-2 c =
-    let b = c .before .before .before .before .before .before .before .before .before .before .before .before .before .before .before .before .before .before .args .block .now in
-    let l = c .before .before .before .before .before .before .before .before .before .before .before .before .before .before .loop in
-    let h : c .before .before .before .before .before .before .before .before .before .before .before .before .line-end .result < length b = omega (arith, c .before .before .before .before .before .before .before .before .before .before .before .if1 .left) in
-    let d = answer-kept (l .c) (take (c .before .before .before .before .before .before .before .before .before .before .before .before .line-end .result - l .i) (drop (l .i) b)) 96 (c .before .before .before .before .before .before .before .before .answer-line .result) (c .before .before .before .before .before .before .before .before .answer-line .ensures .coded) (c .if2 .left) in
-    let n = next-line (c .before .before .before .before .before .before .before .before .before .before .before .before .before .before .before .before .before .before .args .f .cond) (c .before .before .before .before .before .before .before .before .before .before .before .before .before .before .before .before .before .before .args .f .left) b (c .before .before .before .before .before .before .before .before .before .before .before .before .before .before .before .before .before .before .args .at) (l .i) (l .c) (l .left) (l .inv .0) (c .before .before .before .before .before .before .before .before .before .before .before .before .line-end .result) (c .before .before .before .before .before .before .before .before .before .before .before .before .line-end .ensures .0) (l .inv .1) h (omega (arith, c .before .before .before .before .before .before .before .before .before .before .before .before .before .loop-test .taken)) _ d in
+    let b = c .before .before .before .before .before .before .before .before .before .before .before .before .before .before .before .before .before .before .before .args .block .now in
+    let l = c .before .before .before .before .before .before .before .before .before .before .before .before .before .before .before .loop in
+    let h : c .before .before .before .before .before .before .before .before .before .before .before .before .before .line-end .result < length b = omega (arith, c .before .before .before .before .before .before .before .before .before .before .before .before .if1 .left) in
+    let d = answer-kept (l .c) (c .before .before .before .before .before .before .before .before .before .before .hear .result) 96 (take (c .before .before .before .before .before .before .before .before .before .before .before .before .before .line-end .result - l .i) (drop (l .i) b)) (c .before .before .before .before .before .before .before .before .before .before .hear .ensures (l .c) 96) (c .before .before .before .before .before .before .before .before .answer-line .result .code) (c .before .before .before .before .before .before .before .before .answer-line .ensures .coded) (c .if2 .left) in
+    let n = next-line (c .before .before .before .before .before .before .before .before .before .before .before .before .before .before .before .before .before .before .before .args .f .cond) (c .before .before .before .before .before .before .before .before .before .before .before .before .before .before .before .before .before .before .before .args .f .left) b (c .before .before .before .before .before .before .before .before .before .before .before .before .before .before .before .before .before .before .before .args .at) (l .i) (l .c) (l .left) (l .inv .0) (c .before .before .before .before .before .before .before .before .before .before .before .before .before .line-end .result) (c .before .before .before .before .before .before .before .before .before .before .before .before .before .line-end .ensures .0) (l .inv .1) h (omega (arith, c .before .before .before .before .before .before .before .before .before .before .before .before .before .before .loop-test .taken)) _ d in
     (rw (c .before .before .behind .ensures .0) n, c .before .before .behind .ensures .1, c .before .before .before .drain .ensures, c .before .before .before .before .before .before .before .before .answer-line .kept .1 .1 .0 ∙ l .inv .3, l .inv .4)
 
 same-length-2 : tie.Need-same-length-2 Inv-loop μ-loop
@@ -100,9 +103,10 @@ whole-lines-spec =
     line-end-requires
     same-length
     returns
-    sub-answer-line
-    part-answer-line-start
-    part-answer-line-end
+    sub-hear
+    part-hear-start
+    part-hear-end
+    hear-requires
     answer-line-requires
     add-drain
     drain-requires
