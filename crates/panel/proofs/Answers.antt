@@ -11,13 +11,18 @@ use Rattle.grain.specs.declared.Weighed.the-variants.{Weight, NoFit, Limits as 
 use Rattle.grain.specs.Sum.{weighedCode}
 use Rattle.text.specs.declared.Reading.{Reading}
 use Rattle.text.specs.declared.Reading.the-variants.{Sound, TooLong, BadByte, NotOneForm, BadNumber}
-use Rattle.text.specs.Line.{readingCode}
+use Rattle.text.specs.Token.{tokens}
+use Rattle.text.specs.Line.{readingOf, readingCode}
+use Rattle.request.specs.declared.Kind.the-variants.{NoShape}
+use Rattle.request.specs.Shape.{plain}
 use Rattle.panel.specs.declared.Condition.{Condition}
 use Rattle.panel.specs.Operations.{Change, refusedWith}
 use Rattle.panel.specs.declared.Heard.{Heard}
-use Rattle.panel.specs.Step.{Outcome, answered, outcomeOf, outcomeAfter, heardOutcome, stepOf}
+use Rattle.panel.specs.Step.{Outcome, answered, outcomeOf, outcomeAfter, heardBy, heardOf, heardOutcome, effectOf, stepOf}
 use Rattle.panel.proofs.Taking.{chosen}
 use Rattle.panel.proofs.Demand1.{refusals-change-nothing}
+use Rattle.panel.proofs.Carrying.{carried-outcome}
+use Rattle.panel.proofs.Effects.{effect-is}
 
 -- a hold within the places
 pub hold-coded : (c : Condition) (t : Change) (r : Weighed) → t .code ≡ 0 → chosen r t (refusedWith 21 c) (refusedWith 20 c) .code ≡ weighedCode r
@@ -26,19 +31,32 @@ hold-coded c t NoFit e = refl
 hold-coded c t Outside e = refl
 
 -- a line
-pub line-refused : (c : Condition) (line : List ℕ) (t : Reading) (n : ℕ) → n ≡ readingCode t → (n ≡ 0 → ⊥) → outcomeAfter c line t ≡ answered (refusedWith n c)
-line-refused c line Sound n e p = absurd (p e)
-line-refused c line TooLong n e p = rw e
-line-refused c line BadByte n e p = rw e
-line-refused c line NotOneForm n e p = rw e
-line-refused c line BadNumber n e p = rw e
-
 pub line-sound : (t : Reading) → readingCode t ≡ 0 → t ≡ Sound
 line-sound Sound e = refl
 line-sound TooLong e = absurd (omega arith)
 line-sound BadByte e = absurd (omega arith)
 line-sound NotOneForm e = absurd (omega arith)
 line-sound BadNumber e = absurd (omega arith)
+
+-- what is heard of a line that is turned down, and that it has the line's outcome
+pub heard-down : (line : List ℕ) (t : Reading) (n : ℕ) → n ≡ readingCode t → (n ≡ 0 → ⊥) → heardBy line t ≡ record { code = n; request = plain NoShape }
+heard-down line Sound n e p = absurd (p e)
+heard-down line TooLong n e p = rw e
+heard-down line BadByte n e p = rw e
+heard-down line NotOneForm n e p = rw e
+heard-down line BadNumber n e p = rw e
+
+module _ (c : Condition) (line : List ℕ) (n : ℕ) where
+  heard-by : (t : Reading) → cond (eqb (heardBy line t .code) 0) (outcomeOf c (heardBy line t .request)) (answered (refusedWith (heardBy line t .code) c)) ≡ outcomeAfter c line t
+  heard-by Sound = carried-outcome c (tokens line)
+  heard-by TooLong = refl
+  heard-by BadByte = refl
+  heard-by NotOneForm = refl
+  heard-by BadNumber = refl
+
+  pub heard-as : (h : Heard) → h ≡ heardOf line → heardOutcome c h n ≡ stepOf c line n
+  unfolding heardOutcome stepOf
+  heard-as h e = rw (e, heard-by (readingOf line))
 
 -- what was heard, with room for a reply
 module _ (c : Condition) (h : Heard) (n : ℕ) where
@@ -70,7 +88,8 @@ module _ (c : Condition) (h : Heard) (n : ℕ) where
     pub answer-kept : (code ≡ 0 → ⊥) → c ≡ stepOf c line n .after
     answer-kept f = sym (refusals-change-nothing c line n (λ e. f (coded ∙ ap (λ (o : Outcome). o .code) heard ∙ e)))
 
-    pub answer-effect : code ≡ 0 → (d : Condition) → (outcomeOf c (h .request) .code ≡ 0 → d ≡ outcomeOf c (h .request) .after) → d ≡ stepOf c line n .after
+    pub answer-effect : code ≡ 0 → (d : Condition) → d ≡ effectOf c (h .request) → d ≡ stepOf c line n .after
     answer-effect e d f =
         let o = heard-asked (sym coded ∙ e) in
-        f (ap (λ (o : Outcome). o .code) (sym o) ∙ sym coded ∙ e) ∙ ap (λ (o : Outcome). o .after) (sym o ∙ heard)
+        f ∙ effect-is c (h .request) (ap (λ (o : Outcome). o .code) (sym o) ∙ sym coded ∙ e)
+        ∙ ap (λ (o : Outcome). o .after) (sym o ∙ heard)

@@ -4,6 +4,7 @@ use mathlib.Core.Bool.{Bool, true, false, cond, _&&_}
 use Prim.Native.Nat.{ℕ, _<_}
 use native.Mathlib.Omega.{arith}
 use lib.Dec.{eqb}
+use borrow.Author.Tests.{lt-leb}
 use Rattle.whole.proofs.Lists.{and-true}
 use Rattle.record.specs.declared.Ship.{Ship}
 use Rattle.record.specs.declared.Load.{Load}
@@ -20,7 +21,12 @@ use Rattle.panel.specs.declared.Judged.{Judged}
 use Rattle.panel.specs.declared.Judged.the-variants.{Refused, Given}
 use Rattle.panel.specs.Condition.{withShip, withLoad, withColumns, withHold, holdAt, isHeld}
 use Rattle.panel.specs.Operations.{Change, taken, refusedWith, shipOperation, loadOperation, columnChange, columnOperation, holdOperation, dropOperation}
-use Rattle.panel.specs.Step.{verdictGiven}
+use Rattle.request.specs.declared.Kind.{Kind}
+use Rattle.request.specs.declared.Kind.the-variants.{ShipLine, ColumnLine, LoadLine, HoldLine, DropLine, JudgeLine, ClearLine, NoShape}
+use Rattle.request.specs.declared.Request.{Request}
+use Rattle.panel.specs.Judge.{judgedOf}
+use Rattle.panel.specs.Step.{verdictGiven, outcomeBy, outcomeOf, effectBy, effectOf}
+use Rattle.panel.proofs.Taking.{taken-below}
 
 -- a test that answers with 00 passed: the other answer has another code
 passed : (x : Bool) (a b : Change) → 0 < b .code → cond x a b .code ≡ 0 → (x ≡ true) × (a .code ≡ 0)
@@ -111,26 +117,27 @@ module _ (c : Condition) where
   unfolding dropOperation
   drop-taken n p h = rw (p, h)
 
-  -- what each request that is answered with 00 puts into the condition
-  after : {a b : Change} → a ≡ b → b .after ≡ a .after
-  after e = ap (λ (t : Change). t .after) (sym e)
-
-  pub ship-effect : (s : Ship) → shipOperation c s .code ≡ 0 → withShip c s ≡ shipOperation c s .after
-  ship-effect s e = after (ship-taken s (ship-passed s e))
-
-  pub load-effect : (l : Load) → loadOperation c l .code ≡ 0 → withLoad c l ≡ loadOperation c l .after
-  load-effect l e = after (load-taken l (load-passed l e))
-
-  pub column-effect : (k : Column) → columnOperation c k .code ≡ 0 → withColumns c (withColumn (c .columns) k) ≡ columnOperation c k .after
-  column-effect k e = after (column-taken k (column-passed k e))
-
-  pub hold-effect : (n : ℕ) (h : Hold) → holdOperation c n h .code ≡ 0 → withHold c n h ≡ holdOperation c n h .after
-  hold-effect n h e = after (hold-taken n h (hold-passed n h e))
-
-  pub drop-effect : (n : ℕ) → dropOperation c n .code ≡ 0 → withHold c n noHold ≡ dropOperation c n .after
-  drop-effect n e = let t = drop-passed n e in after (drop-taken n (t .0) (t .1))
-
   -- judge changes nothing
   pub judge-same : (j : Judged) → verdictGiven c j .after ≡ c
   judge-same (Refused code) = refl
   judge-same (Given v) = refl
+
+  -- a request that is answered with 00 has its effect
+  after : {a b : Change} → a ≡ b → b .after ≡ a .after
+  after e = ap (λ (t : Change). t .after) (sym e)
+
+  effect-by : (k : Kind) (h : Hold) (col : Column) → outcomeBy c k h col .code ≡ 0 → effectBy c k h col ≡ outcomeBy c k h col .after
+  effect-by (ShipLine s) h col e = after (ship-taken s (ship-passed s e))
+  effect-by ColumnLine h col e =
+      let t = column-passed col e in
+      rw (lt-leb 20 _ (taken-below (held (c .columns)) col t)) (after (column-taken col t))
+  effect-by (LoadLine l) h col e = after (load-taken l (load-passed l e))
+  effect-by (HoldLine n) h col e = let t = hold-passed n h e in rw (t .place) (after (hold-taken n h t))
+  effect-by (DropLine n) h col e = let t = drop-passed n e in rw (t .0) (after (drop-taken n (t .0) (t .1)))
+  effect-by JudgeLine h col e = sym (judge-same (judgedOf c))
+  effect-by ClearLine h col e = refl
+  effect-by NoShape h col e = refl
+
+  pub effect-is : (r : Request) → outcomeOf c r .code ≡ 0 → effectOf c r ≡ outcomeOf c r .after
+  unfolding outcomeOf effectOf
+  effect-is r e = effect-by (r .kind) (r .hold) (r .column) e

@@ -1,5 +1,5 @@
 -- The upper angle of a verdict that judge gives is at most 40 degrees, so that its reply fits.
-use mathlib.Core.Path.{_≡_, refl, subst}
+use mathlib.Core.Path.{_≡_, subst}
 use mathlib.Core.Bool.{Bool, true, false, cond, not, _&&_}
 use Prim.Native.Nat.{ℕ, _≤_}
 use lib.Dec.{leb}
@@ -16,7 +16,7 @@ use Rattle.stability.proofs.Covers.{upper-le}
 use Rattle.panel.specs.declared.Condition.{Condition}
 use Rattle.panel.specs.declared.Judged.{Judged}
 use Rattle.panel.specs.declared.Judged.the-variants.{Refused, Given}
-use Rattle.panel.specs.Judge.{soundPlace, weight, basisAt, judgedAt, judgedOf}
+use Rattle.panel.specs.Judge.{greatestWeight, soundPlace, weight, basisAt, judgedAt, judgedOf}
 
 unfoldable Shown : Judged → Type 0
 Shown (Refused n) = Unit {0}
@@ -36,7 +36,7 @@ given-shown c i = upper-le (c .ship) (basisAt c i)
 
 at-shown : (c : Condition) (a : Around) → Shown (judgedAt c a)
 at-shown c Outside = refusal-shown 33
-at-shown c (At i) = shown-if (all soundPlace (c .holds) && leb (weight c) 1000000000) _ _ (given-shown c i) (refusal-shown 34)
+at-shown c (At i) = shown-if (all soundPlace (c .holds) && leb (weight c) greatestWeight) _ _ (given-shown c i) (refusal-shown 34)
 
 shown : (c : Condition) → Shown (judgedOf c)
 unfolding judgedOf

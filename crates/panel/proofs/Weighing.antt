@@ -18,7 +18,7 @@ use Rattle.grain.proofs.Weights.{nothing-weighs}
 use Rattle.panel.specs.declared.Weights.{Weights}
 use Rattle.panel.specs.declared.Weights.the-variants.{Together, TooMuch}
 use Rattle.panel.specs.Condition.{isHeld}
-use Rattle.panel.specs.Judge.{soundPlace, placeWeight, weightsOf}
+use Rattle.panel.specs.Judge.{greatestWeight, soundPlace, placeWeight, weightsOf}
 
 -- ---- one place
 pub place-empty : (h : Hold) → h .head .count ≡ 0 → Together 0 ≡ placeWeight h
@@ -64,29 +64,31 @@ together-of true m w e = (refl, sym (ap amount e))
     amount : Weights → ℕ
     amount (Together w) = w
     amount TooMuch = 0
-together-of false m w e = let z : _≡_ {A = ℕ} 0 1 = ap tag e in absurd (omega arith)
+together-of false m w e =
+    let z : _≡_ {A = ℕ} 0 1 = ap tag e in absurd (omega arith)
   where
     tag : Weights → ℕ
     tag (Together w) = 1
     tag TooMuch = 0
 
 too-much-of : (x : Bool) (m : ℕ) → cond x (Together m) TooMuch ≡ TooMuch → x ≡ false
-too-much-of true m e = let z : _≡_ {A = ℕ} 1 0 = ap tag e in absurd (omega arith)
+too-much-of true m e =
+    let z : _≡_ {A = ℕ} 1 0 = ap tag e in absurd (omega arith)
   where
     tag : Weights → ℕ
     tag (Together w) = 1
     tag TooMuch = 0
 too-much-of false m e = refl
 
-refused-by : (x : Bool) (m : ℕ) → 1000000000 < m → cond (x && leb m 1000000000) (Together m) TooMuch ≡ TooMuch
-refused-by true m h = rw (lt-leb m 1000000000 h)
+refused-by : (x : Bool) (m : ℕ) → greatestWeight < m → cond (x && leb m greatestWeight) (Together m) TooMuch ≡ TooMuch
+refused-by true m h = rw (lt-leb m greatestWeight h)
 refused-by false m h = refl
 
 -- the loop stands before the place i, with the sum of those before it
 pub record Standing (hs : List Hold) (i sum : ℕ) : Type 0 where
   pub within : i ≤ 16
   pub long : length hs ≡ 16
-  pub small : sum ≤ 1000000000
+  pub small : sum ≤ greatestWeight
   pub summed : sum + totalWeight (drop i hs) ≡ totalWeight hs
   pub tested : all soundPlace (drop i hs) ≡ all soundPlace hs
 
@@ -99,7 +101,7 @@ module _ (hs : List Hold) (i sum : ℕ) (d : Hold) (s : Standing hs i sum) where
   all-weighed p =
       let z = sum-end weightMoment hs i d (omega (arith, s .long)) in
       let e : sum ≡ sumOf weightMoment hs = omega (arith, s .summed) in
-      rw (← all-done soundPlace hs i d (s .tested) (omega (arith, s .long)), ← e, le-leb sum 1000000000 (s .small))
+      rw (← all-done soundPlace hs i d (s .tested) (omega (arith, s .long)), ← e, le-leb sum greatestWeight (s .small))
 
   module _ (p : i < 16) where
     below : i < length hs
@@ -118,11 +120,11 @@ module _ (hs : List Hold) (i sum : ℕ) (d : Hold) (s : Standing hs i sum) where
       unfolding totalWeight
       next = sum-next weightMoment hs i d below
 
-      pub place-too-much : 1000000000 < sum + w → TooMuch ≡ weightsOf hs
+      pub place-too-much : greatestWeight < sum + w → TooMuch ≡ weightsOf hs
       unfolding weightsOf
       place-too-much h = sym (refused-by (all soundPlace hs) (totalWeight hs) (omega (arith, s .summed, next, of .1)))
 
-      pub standing-next : sum + w ≤ 1000000000 → Standing hs (i + 1) (sum + w)
+      pub standing-next : sum + w ≤ greatestWeight → Standing hs (i + 1) (sum + w)
       standing-next h =
           record {
             within = omega arith;
@@ -133,12 +135,12 @@ module _ (hs : List Hold) (i sum : ℕ) (d : Hold) (s : Standing hs i sum) where
           }
 
 -- what the answer says of the weight moments
-pub weights-together : (hs : List Hold) (w : ℕ) → weightsOf hs ≡ Together w → ((all soundPlace hs && leb (totalWeight hs) 1000000000) ≡ true) × (w ≡ totalWeight hs) × (w ≤ 1000000000)
+pub weights-together : (hs : List Hold) (w : ℕ) → weightsOf hs ≡ Together w → ((all soundPlace hs && leb (totalWeight hs) greatestWeight) ≡ true) × (w ≡ totalWeight hs) × (w ≤ greatestWeight)
 unfolding weightsOf
 weights-together hs w e =
-    let t = together-of (all soundPlace hs && leb (totalWeight hs) 1000000000) (totalWeight hs) w e in
-    (t .0, t .1, omega (arith, leb-true (totalWeight hs) 1000000000 (and-true (all soundPlace hs) (leb (totalWeight hs) 1000000000) (t .0) .1), t .1))
+    let t = together-of (all soundPlace hs && leb (totalWeight hs) greatestWeight) (totalWeight hs) w e in
+    (t .0, t .1, omega (arith, leb-true (totalWeight hs) greatestWeight (and-true (all soundPlace hs) (leb (totalWeight hs) greatestWeight) (t .0) .1), t .1))
 
-pub weights-refused : (hs : List Hold) → weightsOf hs ≡ TooMuch → (all soundPlace hs && leb (totalWeight hs) 1000000000) ≡ false
+pub weights-refused : (hs : List Hold) → weightsOf hs ≡ TooMuch → (all soundPlace hs && leb (totalWeight hs) greatestWeight) ≡ false
 unfolding weightsOf
-weights-refused hs e = too-much-of (all soundPlace hs && leb (totalWeight hs) 1000000000) (totalWeight hs) e
+weights-refused hs e = too-much-of (all soundPlace hs && leb (totalWeight hs) greatestWeight) (totalWeight hs) e

@@ -15,8 +15,8 @@ use stability::Judgement;
 use stability::Verdict;
 use text::Reading;
 ghost use mathlib.Core.Path.{_≡_};
-ghost use mathlib.Core.Bool.{_&&_, true};
-ghost use Prim.Native.Nat.{ℕ, _-_, _≤_, _<_};
+ghost use mathlib.Core.Bool.{cond, _&&_};
+ghost use Prim.Native.Nat.{_-_, _≤_};
 ghost use lib.ListN.{length, getD};
 ghost use lib.Dec.{leb};
 ghost use Rattle.record.specs.Columns.{held, inOrder, addedCode, withColumn};
@@ -28,7 +28,7 @@ ghost use Rattle.panel.specs.Condition.{empty, isHeld, withShip, withLoa
 ghost use Rattle.grain.specs.Sum.{weighedCode};
 ghost use Rattle.text.specs.Line.{readingCode};
 ghost use Rattle.panel.specs.Operations.{shipOperation, loadOperation, columnOperation, holdOperation, dropOperation};
-ghost use Rattle.panel.specs.Step.{verdictGiven, outcomeOf, heardOutcome, stepOf, Replies, Steps};
+ghost use Rattle.panel.specs.Step.{verdictGiven, outcomeOf, heardOf, heardOutcome, effectOf, stepOf, Replies, Steps};
 ghost use Rattle.panel.specs.Judge.{judgedOf, judgedAt, placeWeight, weightsOf, Between};
 
 // One loading condition of one ship. A place of `holds` with no parts holds no hold.
@@ -174,7 +174,7 @@ fn weights_of(holds: [Hold; 16]) -> Weights
     Weights::Together(sum)
 }
 
-// The same column: that an array has its length is known of a parameter.
+// Gives the column back: that it has ten KN is known of a parameter alone.
 fn of_ten(k: Column) -> Column
     ensures { λ r. ⌜ (r ≡ k) × (length (r .kn) ≡ 10) ⌝ }
 {
@@ -206,6 +206,7 @@ fn judge_between(c: Condition, i: usize) -> Judged
     Judged::Given(stability::judge(ship, b))
 }
 
+// 30 to 33 in their order, then 34 or the verdict.
 fn judge(c: Condition) -> Judged
     ensures { λ r. ⌜ r ≡ judgedOf c ⌝ }
 {
@@ -230,6 +231,7 @@ fn judge(c: Condition) -> Judged
 
 // ---- the codes of the operations
 
+// 00 or 20.
 fn ship_code(s: Ship) -> u8
     ensures { λ r. ⌜ ((c : Condition) → r ≡ shipOperation c s .code) ⌝ }
 {
@@ -239,6 +241,7 @@ fn ship_code(s: Ship) -> u8
     0
 }
 
+// 00 or 20.
 fn load_code(l: Load) -> u8
     ensures { λ r. ⌜ ((c : Condition) → r ≡ loadOperation c l .code) ⌝ }
 {
@@ -260,6 +263,7 @@ fn added_code(a: Added) -> u8
     }
 }
 
+// 00, or 20, 23, 22 in this order.
 fn column_code(c: Condition, k: Column) -> u8
     ensures { λ r. ⌜ r ≡ columnOperation c k .code ⌝ }
 {
@@ -278,6 +282,7 @@ fn weighed_code(w: Weighed) -> u8
     }
 }
 
+// 00, or 20, 21.
 fn hold_code(n: u32, h: Hold) -> u8
     ensures { λ r. ⌜ ((c : Condition) → r ≡ holdOperation c n h .code) ⌝ }
 {
@@ -287,6 +292,7 @@ fn hold_code(n: u32, h: Hold) -> u8
     weighed_code(grain::weigh(h))
 }
 
+// 00, or 20, 24.
 fn drop_code(c: Condition, n: u32) -> u8
     ensures { λ r. ⌜ r ≡ dropOperation c n .code ⌝ }
 {
@@ -300,7 +306,8 @@ fn drop_code(c: Condition, n: u32) -> u8
     0
 }
 
-fn code_of(j: Judgement) -> u8
+// The paper's code for each judgement.
+fn judgement_code(j: Judgement) -> u8
     ensures { λ r. ⌜ r ≡ judgementCode j ⌝ }
 {
     match j {
@@ -329,7 +336,7 @@ fn reading_code(t: Reading) -> u8
 
 // The tests of the whole line, and the request of one that passes them.
 pub fn hear(line: &[u8]) -> Heard
-    ensures { λ r. ⌜ ((c : Condition) (n : ℕ) → heardOutcome c r n ≡ stepOf c (now (line .entry)) n) ⌝ }
+    ensures { λ r. ⌜ r ≡ heardOf (now (line .entry)) ⌝ }
 {
     let found = reading_code(text::reading_of(line));
     if found != 0 {
@@ -344,7 +351,7 @@ pub fn hear(line: &[u8]) -> Heard
 
 // ---- the replies
 
-// Every line but a judge that is heard is answered `(answer CC)`.
+// Every line but a judge without fault is answered `(answer CC)`.
 fn answer_with(code: u8, out: &mut [u8]) -> Replied
     requires { ⌜ 96 ≤ length (now out) ⌝ }
     ensures { λ r. ⌜ Replies code (answerReply code) r (now (out .entry)) (now (out .exit)) ⌝ }
@@ -366,13 +373,14 @@ fn give_verdict(c: Condition, out: &mut [u8]) -> Replied
         }
         Judged::Given(v) => {
             let judgement = v.judgement;
-            let code = code_of(judgement);
+            let code = judgement_code(judgement);
             let len = reply::verdict(out, code, v.gm, v.diff, v.upper, v.area);
             Replied { code, len }
         }
     }
 }
 
+// The reply to a request.
 fn reply_to(c: Condition, r: Request, out: &mut [u8]) -> Replied
     requires { ⌜ 96 ≤ length (now out) ⌝ }
     ensures { λ a. ⌜ Replies (outcomeOf c r .code) (outcomeOf c r .reply) a (now (out .entry)) (now (out .exit)) ⌝ }
@@ -430,7 +438,7 @@ fn with_load(c: Condition, l: Load) -> Condition
 }
 
 fn with_column(c: Condition, k: Column) -> Condition
-    ensures { λ r. ⌜ (length (held (c .columns)) < 20 → r ≡ withColumns c (withColumn (c .columns) k)) ⌝ }
+    ensures { λ r. ⌜ r ≡ cond (leb 20 (length (held (c .columns)))) c (withColumns c (withColumn (c .columns) k)) ⌝ }
 {
     let ks = c.columns;
     if 20 <= ks.count {
@@ -442,7 +450,7 @@ fn with_column(c: Condition, k: Column) -> Condition
 }
 
 fn with_hold(c: Condition, n: u32, h: Hold) -> Condition
-    ensures { λ r. ⌜ (placeLimits n ≡ true → r ≡ withHold c n h) ⌝ }
+    ensures { λ r. ⌜ r ≡ cond (placeLimits n) (withHold c n h) c ⌝ }
 {
     if !record::place_limits(n) {
         return c;
@@ -453,9 +461,9 @@ fn with_hold(c: Condition, n: u32, h: Hold) -> Condition
     after
 }
 
-// The condition after a request that was answered with 00.
+// What a request that was answered with 00 puts into the condition.
 pub fn effect(c: Condition, r: Request) -> Condition
-    ensures { λ a. ⌜ (outcomeOf c r .code ≡ 0 → a ≡ outcomeOf c r .after) ⌝ }
+    ensures { λ a. ⌜ a ≡ effectOf c r ⌝ }
 {
     let kind = r.kind;
     let h = r.hold;

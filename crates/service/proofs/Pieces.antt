@@ -11,7 +11,7 @@ use borrow.Author.Tests.{eqb-true}
 use Rattle.whole.proofs.Lists.{drop-end}
 use Rattle.service.specs.declared.Feed.{Feed}
 use Rattle.service.specs.Lines.{cut}
-use Rattle.service.specs.Feeding.{lineLength, Fed, LineTaken, KeptTaken, Moves, Ends, FirstMoved}
+use Rattle.service.specs.Feeding.{lineLength, Fed, LineTaken, KeptTaken, Stands, Moves, ReadSoFar, Ends, FirstMoved}
 use Rattle.service.proofs.Cutting.{none-sent}
 use Rattle.service.proofs.Blocks.{by-count, stands-full, stands-on, stands-lines, stands-line, moves-on, ends-none, ends-line}
 
@@ -124,6 +124,26 @@ block-moved f g t r line kept after block at i m d u rest c l k =
         let w : 0 < g .left → take (g .used) kept ≡ [] = λ p. rw (m .ended (omega arith) p) refl in
         stands-lines (drop at block) w fed
         (λ p. let q : 0 < t .left = omega arith in k ∙ rw (u, w (omega (arith, d .count)), rest q) refl)
+
+-- ---- block after block
+pub read-none : (lines bytes : ℕ) (f : Feed) (line : List ℕ) → Stands lines [] f [] → f .used ≡ 0 → ReadSoFar lines bytes f line bytes
+read-none lines bytes f line s z =
+    record {
+      input = [];
+      counted = omega arith;
+      stands = record { condition = s .condition; count = s .count; begun = λ p. rw z (s .begun p) };
+    }
+
+pub read-more : (lines bytes more n : ℕ) (f g r : Feed) (line piece after : List ℕ) → ReadSoFar lines bytes f line more →
+    Moves f (take (f .used) line) piece g (take (g .used) after) → n ≡ length piece → n ≤ more →
+    r .cond ≡ g .cond → r .left ≡ g .left → r .used ≡ g .used → ReadSoFar lines bytes r after (more - n)
+read-more lines bytes more n f g r line piece after s m e h c l u =
+    let t = m lines (s .input) (s .stands) in
+    record {
+      input = s .input ++ piece;
+      counted = omega (arith, s .counted, length-append (s .input) piece);
+      stands = record { condition = c ∙ t .condition; count = l ∙ t .count; begun = λ p. rw u (t .begun (omega arith)) };
+    }
 
 -- ---- the end of the input
 pub input-ended : (f g r : Feed) (line : List ℕ) → KeptTaken f line g → r .cond ≡ g .cond → f .used ≤ length line → Ends f (take (f .used) line) r

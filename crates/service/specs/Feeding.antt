@@ -44,6 +44,12 @@ pub record Stands (most : ℕ) (input : List ℕ) (f : Feed) (kept : List ℕ) :
 abbrev pub Moves : (f : Feed) (kept piece : List ℕ) (r : Feed) (after : List ℕ) → Type 0
 Moves f kept piece r after = (most : ℕ) (input : List ℕ) → Stands most input f kept → Stands most (input ++ piece) r after
 
+-- between blocks: an input was read, `more` bytes short of the limit, and the service stands behind it
+pub record ReadSoFar (lines bytes : ℕ) (f : Feed) (line : List ℕ) (more : ℕ) : Type 0 where
+  pub input : List ℕ
+  pub counted : length input + more ≡ bytes
+  pub stands : Stands lines input f (take (f .used) line)
+
 -- the end of the input takes the line that has begun: the condition is that after the lines of the input
 abbrev pub Ends : (f : Feed) (kept : List ℕ) (r : Feed) → Type 0
 Ends f kept r =

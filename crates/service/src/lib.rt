@@ -3,8 +3,9 @@ use panel::Condition;
 use panel::Heard;
 use panel::Replied;
 ghost use mathlib.Core.Path.{_≡_};
+ghost use mathlib.Core.Bool.{true};
 ghost use mathlib.Core.List.{[], _++_};
-ghost use Prim.Native.Nat.{ℕ, _+_, _-_, _≤_, _<_};
+ghost use Prim.Native.Nat.{_+_, _-_, _≤_, _<_};
 ghost use lib.ListN.{length, take, drop};
 ghost use Rattle.panel.specs.Step.{heardOutcome};
 ghost use Rattle.service.specs.Lines.{cut};
@@ -278,8 +279,9 @@ fn fetch(block: &mut [u8], most: usize) -> usize
     0
 }
 
+// Nothing read, nothing taken.
 fn start(lines: u64) -> Feed
-    ensures { λ r. ⌜ Stands lines [] r [] × (r .used ≡ 0) × (r .filled ≡ 0) ⌝ }
+    ensures { λ r. ⌜ Stands lines [] r [] × (r .used ≡ 0) × (r .filled ≡ 0) × (r .going ≡ true) ⌝ }
 {
     Feed {
         cond: panel::empty_condition(),

@@ -1,9 +1,5 @@
-use mathlib.Core.Path.{refl, sym, _∙_}
-use Rattle.record.specs.Columns.{held}
-use Rattle.panel.specs.Judge.{judgedOf}
-use Rattle.panel.specs.Step.{outcomeOf}
-use Rattle.panel.proofs.Taking.{taken-below}
-use Rattle.panel.proofs.Effects.{ship-effect, load-effect, column-passed, column-effect, hold-passed, hold-effect, drop-passed, drop-effect, judge-same}
+use mathlib.Core.Path.{refl}
+use Rattle.panel.specs.Step.{effectOf}
 use borrow.Author.Needs.{needs}
 use Rattle.panel.proofs.effect.Statement.{statement}
 use Rattle.panel.proofs.effect.Tie as tie
@@ -54,39 +50,36 @@ enum-told-4 : tie.Need-enum-told-4
 enum-told-4 c = search needs
 
 returns : tie.Need-returns
-unfolding outcomeOf
-returns c = rw (c .before .before .kind .given .1) (λ e. c .with-ship .ensures ∙ ship-effect (c .before .before .before .before .before .before .args .c) _ e)
+unfolding effectOf
+returns c = rw (c .before .before .kind .given .1) (c .with-ship .ensures)
 
 returns-2 : tie.Need-returns-2
-unfolding outcomeOf
-returns-2 c = rw (c .before .enum-told .given .1)
-    (λ e. c .with-column .ensures (taken-below (held ((c .before .before .before .before .before .args .c) .columns)) (c .before .before .before .before .before .args .r .column) (column-passed (c .before .before .before .before .before .args .c) (c .before .before .before .before .before .args .r .column) e)) ∙ column-effect (c .before .before .before .before .before .args .c) (c .before .before .before .before .before .args .r .column) e)
+unfolding effectOf
+returns-2 c = rw (c .before .enum-told .given .1) (c .with-column .ensures)
 
 returns-3 : tie.Need-returns-3
-unfolding outcomeOf
-returns-3 c = rw (c .before .before .kind2 .given .1) (λ e. c .with-load .ensures ∙ load-effect (c .before .before .before .before .before .before .args .c) _ e)
+unfolding effectOf
+returns-3 c = rw (c .before .before .kind2 .given .1) (c .with-load .ensures)
 
 returns-4 : tie.Need-returns-4
-unfolding outcomeOf
-returns-4 c = rw (c .before .before .kind3 .given .1)
-    (λ e. c .with-hold .ensures (hold-passed (c .before .before .before .before .before .before .args .c) _ (c .before .before .before .before .before .before .args .r .hold) e .place) ∙ hold-effect (c .before .before .before .before .before .before .args .c) _ (c .before .before .before .before .before .before .args .r .hold) e)
+unfolding effectOf
+returns-4 c = rw (c .before .before .kind3 .given .1) (c .with-hold .ensures)
 
 returns-5 : tie.Need-returns-5
-unfolding outcomeOf
-returns-5 c = rw (c .before .before .before .kind4 .given .1)
-    (λ e. c .with-hold2 .ensures (drop-passed (c .before .before .before .before .before .before .before .args .c) _ e .0) ∙ rw (c .before .no-hold .ensures) (drop-effect (c .before .before .before .before .before .before .before .args .c) _ e))
+unfolding effectOf
+returns-5 c = rw (c .before .before .before .kind4 .given .1, ← c .before .no-hold .ensures) (c .with-hold2 .ensures)
 
 returns-6 : tie.Need-returns-6
-unfolding outcomeOf
-returns-6 c = rw (c .enum-told2 .given .1) (λ e. sym (judge-same (c .before .before .before .before .args .c) (judgedOf (c .before .before .before .before .args .c))))
+unfolding effectOf
+returns-6 c = rw (c .enum-told2 .given .1) refl
 
 returns-7 : tie.Need-returns-7
-unfolding outcomeOf
-returns-7 c = rw (c .before .enum-told3 .given .1) (λ e. c .empty-condition .ensures)
+unfolding effectOf
+returns-7 c = rw (c .before .enum-told3 .given .1) (c .empty-condition .ensures)
 
 returns-8 : tie.Need-returns-8
-unfolding outcomeOf
-returns-8 c = rw (c .enum-told4 .given .1) (λ e. refl)
+unfolding effectOf
+returns-8 c = rw (c .enum-told4 .given .1) refl
 
 pub effect-spec : {M : Type 1} → statement M
 effect-spec =

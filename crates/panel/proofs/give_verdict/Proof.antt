@@ -19,8 +19,8 @@ refusal-requires c κs = search needs
 enum-known-j-2 : tie.Need-enum-known-j-2
 enum-known-j-2 c = search needs
 
-code-of-requires : tie.Need-code-of-requires
-code-of-requires c κs = search needs
+judgement-code-requires : tie.Need-judgement-code-requires
+judgement-code-requires c κs = search needs
 
 verdict-requires : tie.Need-verdict-requires
 verdict-requires c κs = (search needs, upper-shown (c .before .before .before .before .before .before .before .before .before .args .c) (c .before .before .before .before .before .j2 .given .0 .0) (sym (c .before .before .before .before .before .before .before .judge .ensures) ∙ c .before .before .before .before .before .j2 .given .1))
@@ -41,9 +41,9 @@ returns-2 c =
     let f2 : SFits w64 (v .diff) = search needs in
     rw (sym (c .before .before .before .before .before .before .before .before .before .before .judge .ensures) ∙ c .before .before .before .before .before .before .before .before .j2 .given .1)
     (record {
-      coded = c .before .before .before .before .before .before .code-of .ensures;
-      long = c .before .before .verdict .ensures .0 ∙ rw (c .before .before .before .before .before .before .code-of .ensures, toZ-ofZ {w = w64} {z = v .gm} f1, toZ-ofZ {w = w64} {z = v .diff} f2);
-      written = c .before .before .verdict .ensures .1 ∙ rw (c .before .before .before .before .before .before .code-of .ensures, toZ-ofZ {w = w64} {z = v .gm} f1, toZ-ofZ {w = w64} {z = v .diff} f2);
+      coded = c .before .before .before .before .before .before .judgement-code .ensures;
+      long = c .before .before .verdict .ensures .0 ∙ rw (c .before .before .before .before .before .before .judgement-code .ensures, toZ-ofZ {w = w64} {z = v .gm} f1, toZ-ofZ {w = w64} {z = v .diff} f2);
+      written = c .before .before .verdict .ensures .1 ∙ rw (c .before .before .before .before .before .before .judgement-code .ensures, toZ-ofZ {w = w64} {z = v .gm} f1, toZ-ofZ {w = w64} {z = v .diff} f2);
     })
 
 pub give-verdict-spec : {M : Type 1} → statement M
@@ -54,7 +54,7 @@ give-verdict-spec =
     enum-known-j
     refusal-requires
     enum-known-j-2
-    code-of-requires
+    judgement-code-requires
     verdict-requires
     same-length
     returns

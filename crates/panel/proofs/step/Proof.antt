@@ -1,5 +1,5 @@
 use lib.ListN.{length}
-use Rattle.panel.proofs.Answers.{answer-kept, answer-effect}
+use Rattle.panel.proofs.Answers.{heard-as, answer-kept, answer-effect}
 use borrow.Author.Needs.{needs}
 use Rattle.panel.proofs.step.Statement.{statement}
 use Rattle.panel.proofs.step.Tie as tie
@@ -16,7 +16,7 @@ same-length c = search needs
 returns : tie.Need-returns
 returns c =
     let a = c .before .before .before .answer .ensures in
-    let e = c .before .before .before .before .before .hear .ensures (c .before .before .before .before .before .before .before .before .args .c) (length (c .before .before .before .before .before .before .before .before .args .out .now)) in
+    let e = heard-as (c .before .before .before .before .before .before .before .before .args .c) (c .before .before .before .before .before .before .before .before .args .line .now) (length (c .before .before .before .before .before .before .before .before .args .out .now)) (c .before .before .before .before .before .hear .result) (c .before .before .before .before .before .hear .ensures) in
     rw (← e) (record { condition = rw e (answer-kept (c .before .before .before .before .before .before .before .before .args .c) (c .before .before .before .before .before .hear .result) (length (c .before .before .before .before .before .before .before .before .args .out .now)) (c .before .before .before .before .before .before .before .before .args .line .now) e (c .before .before .before .answer .result .code) (a .coded) (c .if1 .taken)); coded = a .coded; long = a .long; written = a .written })
 
 effect-requires : tie.Need-effect-requires
@@ -28,7 +28,7 @@ same-length-2 c = search needs
 returns-2 : tie.Need-returns-2
 returns-2 c =
     let a = c .before .before .before .before .before .answer .ensures in
-    let e = c .before .before .before .before .before .before .before .hear .ensures (c .before .before .before .before .before .before .before .before .before .before .args .c) (length (c .before .before .before .before .before .before .before .before .before .before .args .out .now)) in
+    let e = heard-as (c .before .before .before .before .before .before .before .before .before .before .args .c) (c .before .before .before .before .before .before .before .before .before .before .args .line .now) (length (c .before .before .before .before .before .before .before .before .before .before .args .out .now)) (c .before .before .before .before .before .before .before .hear .result) (c .before .before .before .before .before .before .before .hear .ensures) in
     rw (← e) (record {
       condition = rw e (answer-effect (c .before .before .before .before .before .before .before .before .before .before .args .c) (c .before .before .before .before .before .before .before .hear .result) (length (c .before .before .before .before .before .before .before .before .before .before .args .out .now)) (c .before .before .before .before .before .before .before .before .before .before .args .line .now) e (c .before .before .before .before .before .answer .result .code) (a .coded) (c .before .before .if1 .left) (c .effect .result) (c .effect .ensures));
       coded = a .coded;

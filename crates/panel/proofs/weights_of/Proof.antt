@@ -1,3 +1,4 @@
+use Rattle.panel.specs.Judge.{greatestWeight}
 use mathlib.Core.Path.{_≡_, sym, _∙_}
 use Prim.Native.Nat.{_≤_, _-_}
 use native.Mathlib.Omega.{arith}
@@ -10,7 +11,7 @@ use Rattle.panel.proofs.weights_of.Statement.{statement}
 use Rattle.panel.proofs.weights_of.Tie as tie
 
 abbrev Inv-loop : tie.InvT-loop
-Inv-loop holds sum₀ i₀ sum i = Standing holds i sum × (sum ≤ 1000000000) × (i ≤ 16)
+Inv-loop holds sum₀ i₀ sum i = Standing holds i sum × (sum ≤ greatestWeight) × (i ≤ 16)
 
 abbrev μ-loop : tie.MeasureT-loop
 μ-loop holds sum₀ i₀ sum i = 16 - i

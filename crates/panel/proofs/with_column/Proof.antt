@@ -1,22 +1,27 @@
 use mathlib.Core.Path.{_≡_, refl}
-use lib.ListN.{length, length-take}
-use Rattle.whole.proofs.Lists.{unmapped}
 use native.Mathlib.Omega.{arith}
+use lib.ListN.{length, length-take}
+use borrow.Author.Tests.{le-leb, lt-leb}
+use Rattle.whole.proofs.Lists.{unmapped}
+use Rattle.record.specs.Columns.{held}
 use borrow.Author.Needs.{needs}
 use Rattle.panel.proofs.with_column.Statement.{statement}
 use Rattle.panel.proofs.with_column.Tie as tie
 
 returns : tie.Need-returns
-returns c = λ e.
+returns c =
     let cs = c .before .before .before .args .c .columns in
     let l : length (cs .places) ≡ 20 = search (unmapped, needs) in
-    absurd (omega (arith, length-take (cs .count) (cs .places)))
+    rw (le-leb 20 (length (held cs)) (omega (arith, length-take (cs .count) (cs .places)))) refl
 
 with-column-requires : tie.Need-with-column-requires
 with-column-requires c κs = search needs
 
 returns-2 : tie.Need-returns-2
-returns-2 c = λ e. rw (c .with-column .ensures) refl
+returns-2 c =
+    let cs = c .before .before .before .before .args .c .columns in
+    let l : length (cs .places) ≡ 20 = search (unmapped, needs) in
+    rw (lt-leb 20 (length (held cs)) (omega (arith, length-take (cs .count) (cs .places))), c .with-column .ensures) refl
 
 pub with-column-spec : {M : Type 1} → statement M
 with-column-spec = tie.close (tie.spec returns with-column-requires returns-2)

@@ -1,4 +1,4 @@
-use mathlib.Core.Path.{sym, _∙_}
+use mathlib.Core.Path.{refl, sym, _∙_}
 use native.Mathlib.Omega.{arith}
 use borrow.Author.Tests.{not-true, not-false}
 use Rattle.panel.proofs.Taking.{place-within}
@@ -10,7 +10,7 @@ place-limits-requires : tie.Need-place-limits-requires
 place-limits-requires c κs = search needs
 
 returns : tie.Need-returns
-returns c = λ e. let n = sym e ∙ sym (c .before .place-limits .ensures) ∙ not-true _ (c .if1 .taken) in cc
+returns c = rw (sym (c .before .place-limits .ensures) ∙ not-true _ (c .if1 .taken)) refl
 
 sub-at : tie.Need-sub-at
 sub-at c =
@@ -27,7 +27,7 @@ element-set-from-h c =
     let w = place-within (c .before .before .args .n) (sym (c .before .place-limits .ensures) ∙ not-false _ (c .if1 .left)) in omega arith
 
 returns-2 : tie.Need-returns-2
-returns-2 c = search needs
+returns-2 c = rw (sym (c .before .place-limits .ensures) ∙ not-false _ (c .if1 .left)) refl
 
 pub with-hold-spec : {M : Type 1} → statement M
 with-hold-spec =

@@ -3,12 +3,14 @@ use Prim.Native.Nat.{_≤_}
 use native.Mathlib.Omega.{arith}
 use lib.ListN.{length}
 use lib.Seq.{length-take-le}
+use Rattle.service.specs.Feeding.{ReadSoFar}
+use Rattle.service.proofs.Pieces.{read-none, read-more}
 use borrow.Author.Needs.{needs}
 use Rattle.service.proofs.serve.Statement.{statement}
 use Rattle.service.proofs.serve.Tie as tie
 
 abbrev Inv-loop : tie.InvT-loop
-Inv-loop lines bytes block₀ line₀ out₀ f₀ more₀ block line out f more = (length block ≡ 65536) × (length line ≡ 2001) × (length out ≡ 65536) × (f .used ≤ 2001) × (f .filled ≤ 65000)
+Inv-loop lines bytes block₀ line₀ out₀ f₀ more₀ block line out f more = (length block ≡ 65536) × (length line ≡ 2001) × (length out ≡ 65536) × (f .used ≤ 2001) × (f .filled ≤ 65000) × ReadSoFar lines bytes f line more
 
 abbrev μ-loop : tie.MeasureT-loop
 μ-loop lines bytes block₀ line₀ out₀ f₀ more₀ block line out f more = more
@@ -23,7 +25,7 @@ start-requires : tie.Need-start-requires Inv-loop μ-loop
 start-requires c κs = search needs
 
 loop-holds : tie.Need-loop-holds Inv-loop μ-loop
-loop-holds c = search needs
+loop-holds c = (search needs, search needs, search needs, search needs, search needs, read-none (c .before .before .before .args .lines) (c .before .before .before .args .bytes) (c .start .result) _ (c .start .ensures .0) (c .start .ensures .1))
 
 returns : tie.Need-returns Inv-loop μ-loop
 returns c = search needs
@@ -82,7 +84,16 @@ loop-less c =
     let h : c .before .before .before .before .before .before .before .before .before .before .before .before .fetch .result ≤ c .before .before .before .before .before .before .before .before .before .before .before .before .before .before .before .before .before .loop .more = omega (arith, c .before .before .before .before .before .before .before .before .before .before .before .before .fetch .ensures, c .before .before .before .before .before .before .before .before .before .before .before .before .before .before .smaller .ensures) in omega arith
 
 loop-again : tie.Need-loop-again Inv-loop μ-loop
-loop-again c = search needs
+loop-again c =
+    let h : c .before .before .before .before .before .before .before .before .before .before .before .before .fetch .result ≤ c .before .before .before .before .before .before .before .before .before .before .before .before .before .before .before .before .before .loop .more = omega (arith, c .before .before .before .before .before .before .before .before .before .before .before .before .fetch .ensures, c .before .before .before .before .before .before .before .before .before .before .before .before .before .before .smaller .ensures) in
+    let l : c .before .before .before .before .before .before .before .before .before .before .before .before .fetch .result ≤ 65536 = omega (arith, c .before .before .before .before .before .before .before .before .before .before .before .before .fetch .ensures, c .before .before .before .before .before .before .before .before .before .before .before .before .before .before .smaller .ensures) in (
+      search needs,
+      search needs,
+      search needs,
+      search needs,
+      search needs,
+      read-more (c .before .before .before .before .before .before .before .before .before .before .before .before .before .before .before .before .before .before .before .before .before .args .lines) (c .before .before .before .before .before .before .before .before .before .before .before .before .before .before .before .before .before .before .before .before .before .args .bytes) (c .before .before .before .before .before .before .before .before .before .before .before .before .before .before .before .before .before .loop .more) (c .before .before .before .before .before .before .before .before .before .before .before .before .fetch .result) (c .before .before .before .before .before .before .before .before .before .before .before .before .before .before .before .before .before .loop .f) (c .before .before .before .before .before .before .feed-block .result) (c .before .before .flush .result) _ _ _ (c .before .before .before .before .before .before .before .before .before .before .before .before .before .before .before .before .before .loop .inv .5) (c .before .before .before .before .before .before .feed-block .ensures .1) (sym (length-take-le _ _ (omega arith))) h (c .before .before .flush .ensures .3) (c .before .before .flush .ensures .2) (c .before .before .flush .ensures .1),
+    )
 
 returns-4 : tie.Need-returns-4 Inv-loop μ-loop
 returns-4 c = search needs

@@ -2,7 +2,7 @@ use mathlib.Core.Path.{refl, sym, _∙_}
 use native.Mathlib.Omega.{arith}
 use lib.ListN.{take}
 use lib.Seq.{length-take-le}
-use Rattle.panel.proofs.Answers.{answer-kept, answer-effect}
+use Rattle.panel.proofs.Answers.{heard-as, answer-kept, answer-effect}
 use borrow.Author.Needs.{needs}
 use Rattle.service.proofs.take_kept.Statement.{statement}
 use Rattle.service.proofs.take_kept.Tie as tie
@@ -41,7 +41,7 @@ returns-3 : tie.Need-returns-3
 returns-3 c = (
   record { waits = c .before .before .before .before .drain .ensures; room = c .before .before .before .before .before .before .before .before .before .answer-line .kept .1 .1 .0 ∙ c .before .before .before .before .before .before .before .before .before .before .before .before .before .before .before .before .before .before .pre .room; kept = omega arith; enough = c .before .before .before .before .before .before .before .before .before .before .before .before .before .before .before .before .before .before .pre .enough },
   record {
-    taken = λ p u. record { condition = answer-effect (c .before .before .before .before .before .before .before .before .before .before .before .before .before .before .before .before .before .before .args .f .cond) (c .before .before .before .before .before .before .before .before .before .before .before .hear .result) 96 (take (c .before .before .before .before .before .before .before .before .before .before .before .before .before .before .before .before .before .before .args .f .used) (c .before .before .before .before .before .before .before .before .before .before .before .before .before .before .before .before .before .before .args .line .now)) (c .before .before .before .before .before .before .before .before .before .before .before .hear .ensures (c .before .before .before .before .before .before .before .before .before .before .before .before .before .before .before .before .before .before .args .f .cond) 96) (c .before .before .before .before .before .before .before .before .before .answer-line .result .code) (c .before .before .before .before .before .before .before .before .before .answer-line .ensures .coded) (c .before .before .if3 .taken) (c .effect .result) (c .effect .ensures); count = refl; none = refl };
+    taken = λ p u. record { condition = answer-effect (c .before .before .before .before .before .before .before .before .before .before .before .before .before .before .before .before .before .before .args .f .cond) (c .before .before .before .before .before .before .before .before .before .before .before .hear .result) 96 (take (c .before .before .before .before .before .before .before .before .before .before .before .before .before .before .before .before .before .before .args .f .used) (c .before .before .before .before .before .before .before .before .before .before .before .before .before .before .before .before .before .before .args .line .now)) (heard-as (c .before .before .before .before .before .before .before .before .before .before .before .before .before .before .before .before .before .before .args .f .cond) (take (c .before .before .before .before .before .before .before .before .before .before .before .before .before .before .before .before .before .before .args .f .used) (c .before .before .before .before .before .before .before .before .before .before .before .before .before .before .before .before .before .before .args .line .now)) 96 (c .before .before .before .before .before .before .before .before .before .before .before .hear .result) (c .before .before .before .before .before .before .before .before .before .before .before .hear .ensures)) (c .before .before .before .before .before .before .before .before .before .answer-line .result .code) (c .before .before .before .before .before .before .before .before .before .answer-line .ensures .coded) (c .before .before .if3 .taken) (c .effect .result) (c .effect .ensures); count = refl; none = refl };
     none = λ e. absurd (c .before .before .before .before .before .before .before .before .before .before .before .before .before .before .before .if1 .left e);
     full = λ e. absurd (c .before .before .before .before .before .before .before .before .before .before .before .before .before .before .if2 .left e);
   },
@@ -54,7 +54,7 @@ returns-4 : tie.Need-returns-4
 returns-4 c = (
   record { waits = c .before .before .drain .ensures; room = c .before .before .before .before .before .before .before .answer-line .kept .1 .1 .0 ∙ c .before .before .before .before .before .before .before .before .before .before .before .before .before .before .before .before .pre .room; kept = omega arith; enough = c .before .before .before .before .before .before .before .before .before .before .before .before .before .before .before .before .pre .enough },
   record {
-    taken = λ p u. record { condition = answer-kept (c .before .before .before .before .before .before .before .before .before .before .before .before .before .before .before .before .args .f .cond) (c .before .before .before .before .before .before .before .before .before .hear .result) 96 (take (c .before .before .before .before .before .before .before .before .before .before .before .before .before .before .before .before .args .f .used) (c .before .before .before .before .before .before .before .before .before .before .before .before .before .before .before .before .args .line .now)) (c .before .before .before .before .before .before .before .before .before .hear .ensures (c .before .before .before .before .before .before .before .before .before .before .before .before .before .before .before .before .args .f .cond) 96) (c .before .before .before .before .before .before .before .answer-line .result .code) (c .before .before .before .before .before .before .before .answer-line .ensures .coded) (c .if3 .left); count = refl; none = refl };
+    taken = λ p u. record { condition = answer-kept (c .before .before .before .before .before .before .before .before .before .before .before .before .before .before .before .before .args .f .cond) (c .before .before .before .before .before .before .before .before .before .hear .result) 96 (take (c .before .before .before .before .before .before .before .before .before .before .before .before .before .before .before .before .args .f .used) (c .before .before .before .before .before .before .before .before .before .before .before .before .before .before .before .before .args .line .now)) (heard-as (c .before .before .before .before .before .before .before .before .before .before .before .before .before .before .before .before .args .f .cond) (take (c .before .before .before .before .before .before .before .before .before .before .before .before .before .before .before .before .args .f .used) (c .before .before .before .before .before .before .before .before .before .before .before .before .before .before .before .before .args .line .now)) 96 (c .before .before .before .before .before .before .before .before .before .hear .result) (c .before .before .before .before .before .before .before .before .before .hear .ensures)) (c .before .before .before .before .before .before .before .answer-line .result .code) (c .before .before .before .before .before .before .before .answer-line .ensures .coded) (c .if3 .left); count = refl; none = refl };
     none = λ e. absurd (c .before .before .before .before .before .before .before .before .before .before .before .before .before .if1 .left e);
     full = λ e. absurd (c .before .before .before .before .before .before .before .before .before .before .before .before .if2 .left e);
   },

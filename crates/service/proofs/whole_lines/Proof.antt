@@ -2,7 +2,7 @@ use mathlib.Core.Path.{_≡_, refl, _∙_}
 use Prim.Native.Nat.{_-_, _≤_, _<_}
 use native.Mathlib.Omega.{arith}
 use lib.ListN.{length, take, drop}
-use Rattle.panel.proofs.Answers.{answer-kept, answer-effect}
+use Rattle.panel.proofs.Answers.{heard-as, answer-kept, answer-effect}
 use Rattle.service.proofs.Cutting.{Standing, standing-first, no-lines-left, no-further-line, next-line}
 use borrow.Author.Needs.{needs}
 use Rattle.service.proofs.whole_lines.Statement.{statement}
@@ -68,7 +68,7 @@ loop-again c =
     let b = c .before .before .before .before .before .before .before .before .before .before .before .before .before .before .before .before .before .before .before .before .before .args .block .now in
     let l = c .before .before .before .before .before .before .before .before .before .before .before .before .before .before .before .before .before .loop in
     let h : c .before .before .before .before .before .before .before .before .before .before .before .before .before .before .before .line-end .result < length b = omega (arith, c .before .before .before .before .before .before .before .before .before .before .before .before .before .before .if1 .left) in
-    let d = answer-effect (l .c) (c .before .before .before .before .before .before .before .before .before .before .before .before .hear .result) 96 (take (c .before .before .before .before .before .before .before .before .before .before .before .before .before .before .before .line-end .result - l .i) (drop (l .i) b)) (c .before .before .before .before .before .before .before .before .before .before .before .before .hear .ensures (l .c) 96) (c .before .before .before .before .before .before .before .before .before .before .answer-line .result .code) (c .before .before .before .before .before .before .before .before .before .before .answer-line .ensures .coded) (c .before .before .if2 .taken) (c .effect .result) (c .effect .ensures) in
+    let d = answer-effect (l .c) (c .before .before .before .before .before .before .before .before .before .before .before .before .hear .result) 96 (take (c .before .before .before .before .before .before .before .before .before .before .before .before .before .before .before .line-end .result - l .i) (drop (l .i) b)) (heard-as (l .c) (take (c .before .before .before .before .before .before .before .before .before .before .before .before .before .before .before .line-end .result - l .i) (drop (l .i) b)) 96 (c .before .before .before .before .before .before .before .before .before .before .before .before .hear .result) (c .before .before .before .before .before .before .before .before .before .before .before .before .hear .ensures)) (c .before .before .before .before .before .before .before .before .before .before .answer-line .result .code) (c .before .before .before .before .before .before .before .before .before .before .answer-line .ensures .coded) (c .before .before .if2 .taken) (c .effect .result) (c .effect .ensures) in
     let n = next-line (c .before .before .before .before .before .before .before .before .before .before .before .before .before .before .before .before .before .before .before .before .before .args .f .cond) (c .before .before .before .before .before .before .before .before .before .before .before .before .before .before .before .before .before .before .before .before .before .args .f .left) b (c .before .before .before .before .before .before .before .before .before .before .before .before .before .before .before .before .before .before .before .before .before .args .at) (l .i) (l .c) (l .left) (l .inv .0) (c .before .before .before .before .before .before .before .before .before .before .before .before .before .before .before .line-end .result) (c .before .before .before .before .before .before .before .before .before .before .before .before .before .before .before .line-end .ensures .0) (l .inv .1) h (omega (arith, c .before .before .before .before .before .before .before .before .before .before .before .before .before .before .before .before .loop-test .taken)) _ d in
     (rw (c .before .before .before .before .behind .ensures .0) n, c .before .before .before .before .behind .ensures .1, c .before .before .before .before .before .drain .ensures, c .before .before .before .before .before .before .before .before .before .before .answer-line .kept .1 .1 .0 ∙ l .inv .3, l .inv .4)
 
@@ -80,7 +80,7 @@ loop-again-2 c =
     let b = c .before .before .before .before .before .before .before .before .before .before .before .before .before .before .before .before .before .before .before .args .block .now in
     let l = c .before .before .before .before .before .before .before .before .before .before .before .before .before .before .before .loop in
     let h : c .before .before .before .before .before .before .before .before .before .before .before .before .before .line-end .result < length b = omega (arith, c .before .before .before .before .before .before .before .before .before .before .before .before .if1 .left) in
-    let d = answer-kept (l .c) (c .before .before .before .before .before .before .before .before .before .before .hear .result) 96 (take (c .before .before .before .before .before .before .before .before .before .before .before .before .before .line-end .result - l .i) (drop (l .i) b)) (c .before .before .before .before .before .before .before .before .before .before .hear .ensures (l .c) 96) (c .before .before .before .before .before .before .before .before .answer-line .result .code) (c .before .before .before .before .before .before .before .before .answer-line .ensures .coded) (c .if2 .left) in
+    let d = answer-kept (l .c) (c .before .before .before .before .before .before .before .before .before .before .hear .result) 96 (take (c .before .before .before .before .before .before .before .before .before .before .before .before .before .line-end .result - l .i) (drop (l .i) b)) (heard-as (l .c) (take (c .before .before .before .before .before .before .before .before .before .before .before .before .before .line-end .result - l .i) (drop (l .i) b)) 96 (c .before .before .before .before .before .before .before .before .before .before .hear .result) (c .before .before .before .before .before .before .before .before .before .before .hear .ensures)) (c .before .before .before .before .before .before .before .before .answer-line .result .code) (c .before .before .before .before .before .before .before .before .answer-line .ensures .coded) (c .if2 .left) in
     let n = next-line (c .before .before .before .before .before .before .before .before .before .before .before .before .before .before .before .before .before .before .before .args .f .cond) (c .before .before .before .before .before .before .before .before .before .before .before .before .before .before .before .before .before .before .before .args .f .left) b (c .before .before .before .before .before .before .before .before .before .before .before .before .before .before .before .before .before .before .before .args .at) (l .i) (l .c) (l .left) (l .inv .0) (c .before .before .before .before .before .before .before .before .before .before .before .before .before .line-end .result) (c .before .before .before .before .before .before .before .before .before .before .before .before .before .line-end .ensures .0) (l .inv .1) h (omega (arith, c .before .before .before .before .before .before .before .before .before .before .before .before .before .before .loop-test .taken)) _ d in
     (rw (c .before .before .behind .ensures .0) n, c .before .before .behind .ensures .1, c .before .before .before .drain .ensures, c .before .before .before .before .before .before .before .before .answer-line .kept .1 .1 .0 ∙ l .inv .3, l .inv .4)
 
