@@ -1,10 +1,11 @@
 """A program of the panel as a process: how input comes in, how replies go out, how it ends."""
 
 import os
+import socket
 import subprocess
 import threading
 
-from support import escaped, run_program
+from support import REPOSITORY, Outcome, escaped, run_program
 
 WORKED_RUN = b"""(ship new 1430 3500)
 (column 20000 9000 (0 870 1740 2080 2600 3450 4300 5100 5850 6500))
@@ -32,7 +33,23 @@ def check_process(results, name, program):
     results.report(f"{name} input in pieces of 64 KiB", in_pieces(program, many, replies, 65_536))
     results.report(f"{name} line of {LONG_LINE} bytes", long_line(program))
     results.report(f"{name} replies before it waits for more", replies_at_once(program))
-    results.report(f"{name} ends when its output is closed", closed_output(program))
+    results.report(f"{name} ends when its output is closed", failing_output(program, closed_pipe()))
+    results.report(f"{name} ends when its output is full", failing_output(program, full_device()))
+
+
+def check_failures(results, name, program):
+    """Input and output that fail: the service ends with status 0 and says nothing, and a line that has begun is taken as
+    at the end of the input. The reference ends with status 1 and a message, and leaves such a line."""
+    for what, source, right in [
+        ("a folder as input", os.open(REPOSITORY, os.O_RDONLY), b""),
+        ("input that fails at once", failing_input(b""), b""),
+        ("input that fails behind a line", failing_input(b"(judge)\n"), b"(verdict 30)\n"),
+        ("input that fails before byte 10", failing_input(b"(judge)"), b"(verdict 30)\n"),
+        ("input that fails inside a form", failing_input(b"(judge)\n(jud"), b"(verdict 30)\n(answer 12)\n"),
+    ]:
+        results.report(f"{name} {what}", wrong(run_on(program, source), right))
+    worked = os.open(REPOSITORY / "examples" / "worked.in", os.O_RDONLY)
+    results.report(f"{name} full output, nothing said", wrong(run_on(program, worked, full_device()), b""))
 
 
 def check_reference_limits(results, program):
@@ -191,11 +208,11 @@ def long_line(program):
     return why or (f"used {memory} KB of memory" if memory > MOST_MEMORY else None)
 
 
-def closed_output(program):
-    """Nobody reads the replies any more: the program must end by itself, whatever its status, while its input is open."""
+def failing_output(program, output):
+    """The replies cannot be written: the program must end by itself, whatever its status, while its input is open."""
     process = subprocess.Popen(
-        [str(program)], stdin=subprocess.PIPE, stdout=subprocess.PIPE, stderr=subprocess.DEVNULL, bufsize=0)
-    process.stdout.close()
+        [str(program)], stdin=subprocess.PIPE, stdout=output, stderr=subprocess.DEVNULL, bufsize=0)
+    os.close(output)
     watch = threading.Timer(PATIENCE, process.kill)
     watch.start()
     try:
@@ -208,3 +225,39 @@ def closed_output(program):
     ended_by_itself = watch.is_alive()
     watch.cancel()
     return None if ended_by_itself else f"did not end within {PATIENCE} s"
+
+
+def closed_pipe():
+    """An output whose reading end is closed."""
+    reading, writing = os.pipe()
+    os.close(reading)
+    return writing
+
+
+def full_device():
+    """An output on which every write fails."""
+    return os.open("/dev/full", os.O_WRONLY)
+
+
+def failing_input(sent):
+    """An input that brings these bytes, and behind them fails: its other end was closed with a byte unread."""
+    near, far = socket.socketpair()
+    near.send(b"x")
+    far.send(sent)
+    far.close()
+    return near.detach()
+
+
+def run_on(program, source, output=subprocess.PIPE):
+    """Runs a program on an input that is open, and closes it. A message of the program is a fault, as is its status."""
+    process = subprocess.Popen([str(program)], stdin=source, stdout=output, stderr=subprocess.PIPE)
+    for opened in {source, output} - {subprocess.PIPE}:
+        os.close(opened)
+    try:
+        replies, said = process.communicate(timeout=PATIENCE)
+    except subprocess.TimeoutExpired:
+        process.kill()
+        replies, said = process.communicate()
+        return Outcome(replies or b"", f"did not end within {PATIENCE} s")
+    silent = process.returncode == 0 and not said
+    return Outcome(replies or b"", None if silent else f"ended with status {process.returncode} {escaped(said)}")

@@ -1,5 +1,5 @@
-"""Document 01's readings that are not in the proved set, and its worked run: the files of the crates `readings` and
-`panel_service`, beside document 01 and the programs."""
+"""Document 01's readings that are not in the proved set, its worked run and its limits: the files of the crates
+`readings` and `panel_service`, beside document 01 and the programs."""
 
 import re
 from collections import namedtuple
@@ -11,6 +11,8 @@ from support import run_program, split_lines
 
 LINES, REPLIES = (support.CRATES / "readings" / name for name in ("stdin", "stdout"))
 WORKED_LINES, WORKED_REPLIES = (support.CRATES / "panel_service" / name for name in ("stdin", "stdout"))
+# The programs that run within document 01's limits of lines and bytes.
+SERVICES = ["panel_service", "readings"]
 
 Verdict = namedtuple("Verdict", "code gm diff upper area")
 
@@ -68,6 +70,11 @@ def check_paper(results):
     results.report("panel_service runs document 01's worked run whole", None if right else "not as it is printed there")
     missing = [words for words, _ in READINGS if words not in paper]
     results.report("document 01 prints the readings", f"not {missing}" if missing else None)
+    limits = printed_limits(paper)
+    for crate in SERVICES:
+        served = program_limits(crate)
+        why = None if limits and served == limits else f"{served} instead of {limits} lines and bytes"
+        results.report(f"{crate} runs within document 01's limits", why)
 
 
 def printed_run(paper):
@@ -77,3 +84,15 @@ def printed_run(paper):
     if not lines or not replies:
         return None
     return lines[1].encode(), (6 * (replies[1] + "\n") + replies[2] + "\n").encode()
+
+
+def printed_limits(paper):
+    """The lines and bytes after which the service ends, as document 01 prints them; None where they are not found."""
+    found = re.search(r"until it ends, or ([\d,]+) lines, or ([\d,]+) bytes; then it ends", paper)
+    return found and tuple(int(number.replace(",", "")) for number in found.groups())
+
+
+def program_limits(crate):
+    """The same as the program of a crate hands them to the service."""
+    found = re.search(r"service::serve\((\d+), (\d+)\);", (support.CRATES / crate / "src" / "main.rt").read_text())
+    return found and tuple(int(number) for number in found.groups())
