@@ -14,7 +14,8 @@ use Rattle.whole.proofs.Lists.{and-true, within-true}
 use Rattle.whole.proofs.Roots.{root-is, root-less}
 use Rattle.record.specs.declared.Cell.{Cell}
 use Rattle.record.specs.declared.Cell.the-variants.{Wing, Hatch, Void}
-use Rattle.record.specs.Limits.{cellWidth, cellLimits}
+use Rattle.record.specs.Held.{cellWidth}
+use Rattle.limits.specs.Limits.{cellLimits}
 use Rattle.grain.specs.Depth.{standardDepth, wingDepth, cellDepth, cellArea}
 use Rattle.grain.specs.Section.{mostHeld, cellMost, kept, keptFrom, base, trapezium, firstMoment, highMoment, oldTwice}
 use Rattle.grain.proofs.Depths.{below-first, above-last, between, between-le}

@@ -13,7 +13,8 @@ use Rattle.whole.proofs.Lists.{and-true, within-true, all-at, drop-next, drop-e
 use Rattle.record.proofs.Taken.{pastCell, pastSlot, cells-length, cell-at}
 use Rattle.record.specs.declared.Part.{Part}
 use Rattle.record.specs.declared.Cell.{Cell}
-use Rattle.record.specs.Limits.{cellWidth, cellLimits, cellsOf, sectionLimits}
+use Rattle.record.specs.Held.{cellWidth, cellsOf}
+use Rattle.limits.specs.Limits.{cellLimits, sectionLimits}
 use Rattle.grain.specs.declared.Sums.{Sums}
 use Rattle.grain.specs.Depth.{cellArea}
 use Rattle.grain.specs.Section.{cellMost, keptFrom, keptOf, fitsFrom, fits, firstMoment, highMoment, oldTwice, sectionMoment}

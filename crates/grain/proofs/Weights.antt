@@ -14,7 +14,8 @@ use Rattle.record.specs.declared.Mode.the-variants.{Trimmed, Voided, Partial}
 use Rattle.record.specs.declared.Cell.{Cell}
 use Rattle.record.specs.declared.Part.{Part}
 use Rattle.record.specs.declared.Hold.{Hold}
-use Rattle.record.specs.Limits.{cellWidth, cellLimits, cellsOf, sectionLimits, slackLimits, partLimits, partsOf, holdLimits}
+use Rattle.record.specs.Held.{cellWidth, cellsOf, partsOf}
+use Rattle.limits.specs.Limits.{cellLimits, sectionLimits, slackLimits, partLimits, holdLimits}
 use Rattle.grain.specs.declared.Shifted.the-variants.{Moment, NoFit}
 use Rattle.grain.specs.Section.{Kept, keptFrom, keptOf, highMoment, sectionMoment}
 use Rattle.grain.specs.Slack.{slackMoment}
@@ -72,7 +73,8 @@ part-le Partial p e = slack-le p e
 
 pub moment-le : (mode : Mode) (p : Part) → partLimits mode p ≡ true → partMoment mode p ≤ 2 ^ 30
 unfolding partMoment
-moment-le mode p e = let t = part-le mode p e in omega (arith, mul-le-mul (t .1) (t .0))
+moment-le mode p e =
+    let t = part-le mode p e in omega (arith, mul-le-mul (t .1) (t .0))
 
 -- ---- a hold
 pub record HoldWithin (h : Hold) : Type 0 where
@@ -117,10 +119,12 @@ weight-le h w = ceil-le (10000 * holdMoment h) (h .head .factor) (2 ^ 36) (omega
 -- ---- an answer taken apart
 pub moment-of : (b : Bool) (x m : ℕ) → Moment m ≡ cond b (Moment x) NoFit → (b ≡ true) × (m ≡ x)
 moment-of true x m e = (refl, cc)
-moment-of false x m e = let z : _≡_ {A = ℕ} 0 1 = cc in absurd (omega arith)
+moment-of false x m e =
+    let z : _≡_ {A = ℕ} 0 1 = cc in absurd (omega arith)
 
 pub no-fit-of : (b : Bool) (x : ℕ) → NoFit ≡ cond b (Moment x) NoFit → b ≡ false
-no-fit-of true x e = let z : _≡_ {A = ℕ} 0 1 = cc in absurd (omega arith)
+no-fit-of true x e =
+    let z : _≡_ {A = ℕ} 0 1 = cc in absurd (omega arith)
 no-fit-of false x e = refl
 
 -- ---- the total: a hold put in, replaced or removed

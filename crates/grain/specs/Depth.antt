@@ -1,15 +1,14 @@
 -- Document 01, Void depth.
-use mathlib.Core.Path.{_≡_, refl}
 use mathlib.Core.Bool.{cond}
 use mathlib.Core.List.{List, [], _∷_}
-use Prim.Native.Nat.{ℕ, _+_, _*_, _-_, _/_, _%_, max}
+use Prim.Native.Nat.{ℕ, _+_, _*_, _-_, _/_, max}
 use lib.Dec.{leb, ltb}
 use lib.ListN.{getD}
 use Rattle.whole.specs.Divide.{ceilDiv}
 use Rattle.whole.specs.Line.{onLine}
 use Rattle.record.specs.declared.Cell.{Cell}
 use Rattle.record.specs.declared.Cell.the-variants.{Wing, Hatch, Void}
-use Rattle.record.specs.Limits.{cellWidth}
+use Rattle.record.specs.Held.{cellWidth}
 
 -- Table B 1-1: the distance in mm, every 500 mm from 500 to 8,000, and the standard depth in mm
 abbrev pub distances : List ℕ

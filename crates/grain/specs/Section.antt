@@ -7,7 +7,7 @@ use lib.Dec.{leb}
 use Rattle.whole.specs.Root.{root}
 use Rattle.whole.specs.Lists.{sumOf}
 use Rattle.record.specs.declared.Cell.{Cell}
-use Rattle.record.specs.Limits.{cellWidth, cellLip}
+use Rattle.record.specs.Held.{cellWidth, cellLip}
 use Rattle.grain.specs.Depth.{cellArea}
 
 -- The most that a cell of width w can hold against a lip g, rounded down: g²/(2 × slope) where g ≤ slope × w, else

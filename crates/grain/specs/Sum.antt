@@ -1,14 +1,15 @@
 -- Document 01, the sum: parts in thousandths of m⁴, weight moments in kg·m.
 use mathlib.Core.Bool.{Bool, true, cond, not}
 use mathlib.Core.List.{List}
-use Prim.Native.Nat.{ℕ, _+_, _*_}
+use Prim.Native.Nat.{ℕ, _*_}
 use Rattle.whole.specs.Divide.{ceilDiv}
 use Rattle.whole.specs.Lists.{all, sumOf}
 use Rattle.record.specs.declared.Mode.{Mode}
 use Rattle.record.specs.declared.Mode.the-variants.{Trimmed, Voided, Partial}
 use Rattle.record.specs.declared.Part.{Part}
 use Rattle.record.specs.declared.Hold.{Hold}
-use Rattle.record.specs.Limits.{cellsOf, partsOf, holdLimits}
+use Rattle.record.specs.Held.{cellsOf, partsOf}
+use Rattle.limits.specs.Limits.{holdLimits}
 use Rattle.grain.specs.declared.Weighed.{Weighed}
 use Rattle.grain.specs.declared.Weighed.the-variants.{Weight, Limits, NoFit}
 use Rattle.grain.specs.Section.{sectionMoment, fits}

@@ -9,7 +9,7 @@ use Rattle.whole.specs.Lists.{sumOf}
 use Rattle.record.specs.declared.Mode.{Mode}
 use Rattle.record.specs.declared.Part.{Part}
 use Rattle.record.specs.declared.Hold.{Hold}
-use Rattle.record.specs.Limits.{cellWidth, partsOf}
+use Rattle.record.specs.Held.{cellWidth, partsOf}
 use Rattle.grain.specs.declared.Sizes.{Sizes}
 use Rattle.grain.specs.declared.Sums.{Sums}
 use Rattle.grain.specs.declared.Shifted.{Shifted}

@@ -2,7 +2,8 @@
 ghost use mathlib.Core.Path.{_≡_};
 ghost use mathlib.Core.Bool.{true};
 ghost use Prim.Native.Nat.{ℕ, _+_, _*_, _-_, _/_, _<_, _≤_, _^_, max};
-ghost use Rattle.record.specs.Limits.{cellsOf, sectionLimits, partLimits, holdLimits};
+ghost use Rattle.record.specs.Held.{cellsOf};
+ghost use Rattle.limits.specs.Limits.{sectionLimits, partLimits, holdLimits};
 ghost use Rattle.grain.specs.Depth.{standardDepth, wingDepth, cellDepth, cellArea};
 ghost use Rattle.grain.specs.Section.{mostHeld, kept, base, firstMoment};
 ghost use Rattle.grain.specs.Walk.{Room, sizesOf, withKept, innerCell, momentOf, lastCell, lastAnswer, sectionAnswer, partSectionAnswer, partAnswer, partsAnswer};
@@ -92,7 +93,7 @@ fn wing_depth(dist: u64, girder: u64) -> u64
     ensures { λ r. ⌜ (r ≡ wingDepth dist girder) × (r < 2 ^ 17) ⌝ }
 {
     let raised = standard_depth(dist) + 375 * girder;
-    whole::divide_up(greater(500 * 100, whole::beyond(raised, 375 * 600)), 500)
+    whole::divide_up(greater(500 * 100, choice::beyond(raised, 375 * 600)), 500)
 }
 
 fn depth_of(cell: Cell) -> u64
@@ -190,8 +191,8 @@ fn inner_cell(s: Sums, z: Sizes) -> Sums
     requires { ⌜ Room s z ⌝ }
     ensures { λ r. ⌜ r ≡ innerCell s z ⌝ }
 {
-    let keeps = whole::smaller(z.area, z.most);
-    let excess = s.excess + whole::beyond(z.area, z.most);
+    let keeps = choice::smaller(z.area, z.most);
+    let excess = s.excess + choice::beyond(z.area, z.most);
     with_kept(s, z, keeps, excess)
 }
 
@@ -300,7 +301,7 @@ fn percentage_of(mode: Mode) -> u64
 pub fn weigh(h: Hold) -> Weighed
     ensures { λ r. ⌜ r ≡ weighedOf h ⌝ }
 {
-    if !record::hold_limits(h) {
+    if !limits::hold_limits(h) {
         return Weighed::Limits;
     }
     let Shifted::Moment(sum) = parts_moment(h) else {

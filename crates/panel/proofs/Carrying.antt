@@ -9,8 +9,8 @@ use Rattle.record.specs.declared.Ship.{Ship}
 use Rattle.record.specs.declared.Load.{Load}
 use Rattle.record.specs.declared.Column.{Column}
 use Rattle.record.specs.declared.Hold.{Hold}
-use Rattle.record.specs.Limits.{shipLimits, loadLimits, columnLimits, holdLimits, placeLimits}
-use Rattle.record.specs.Columns.{columnAnswer}
+use Rattle.limits.specs.Limits.{shipLimits, loadLimits, columnLimits, holdLimits, placeLimits}
+use Rattle.columns.specs.Columns.{columnAnswer}
 use Rattle.request.specs.declared.Kind.{Kind}
 use Rattle.request.specs.declared.Kind.the-variants.{ShipLine, ColumnLine, LoadLine, HoldLine, DropLine, JudgeLine, ClearLine, NoShape}
 use Rattle.request.specs.Shape.{requestOf}

@@ -10,11 +10,12 @@ use borrow.Author.Tests.{eqb-true}
 use Rattle.whole.specs.Lists.{all}
 use Rattle.whole.proofs.Lists.{and-true}
 use Rattle.record.specs.declared.Column.{Column}
-use Rattle.record.specs.declared.Added.{Added}
-use Rattle.record.specs.declared.Added.the-variants.{Taken, Limits, Full, NotAbove}
+use Rattle.columns.specs.declared.Added.{Added}
+use Rattle.columns.specs.declared.Added.the-variants.{Taken, Limits, Full, NotAbove}
 use Rattle.record.specs.declared.Hold.{Hold}
-use Rattle.record.specs.Limits.{shipLimits, loadLimits, holdLimits, placeLimits}
-use Rattle.record.specs.Columns.{held, columnAnswer, inOrder}
+use Rattle.limits.specs.Limits.{shipLimits, loadLimits, holdLimits, placeLimits}
+use Rattle.record.specs.Held.{held}
+use Rattle.columns.specs.Columns.{columnAnswer, inOrder}
 use Rattle.grain.specs.Sum.{holdFits}
 use Rattle.stability.specs.declared.Around.{Around}
 use Rattle.stability.specs.declared.Around.the-variants.{At, Outside}
@@ -41,7 +42,8 @@ or-true false y r f g e = g e
 
 pub among : (ms ns : List ℕ) (n : ℕ) → all (isOneOf ns) ms ≡ true → isOneOf ms n ≡ true → isOneOf ns n ≡ true
 unfolding isOneOf all
-among [] ns n a e = let z : _≡_ {A = ℕ} 0 1 = cc in absurd (omega arith)
+among [] ns n a e =
+    let z : _≡_ {A = ℕ} 0 1 = cc in absurd (omega arith)
 among (m ∷ ms) ns n a e =
     let t = and-true (isOneOf ns m) (all (isOneOf ns) ms) a in
     or-true (eqb n m) (isOneOf ms n) (isOneOf ns n) (λ q. rw (eqb-true n m q) (t .0)) (among ms ns n (t .1)) e

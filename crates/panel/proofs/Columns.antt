@@ -11,9 +11,11 @@ use lib.Seq.{getD-take}
 use Rattle.whole.proofs.Lists.{drop-next, drop-end, getD-any}
 use Rattle.record.proofs.Taken.{pastColumn}
 use Rattle.record.specs.declared.Column.{Column}
-use Rattle.record.specs.Limits.{columnLimits}
+use Rattle.limits.specs.Limits.{columnLimits}
 use Rattle.record.specs.declared.Columns.{Columns}
-use Rattle.record.specs.Columns.{held, inOrder, noColumn}
+use Rattle.record.specs.Held.{held}
+use Rattle.columns.specs.Columns.{inOrder}
+use Rattle.record.specs.Filler.{noColumn}
 
 out-of-limits : (k : Column) (ks : List Column) → columnLimits k ≡ false → inOrder (k ∷ ks) ≡ false
 unfolding inOrder

@@ -16,11 +16,13 @@ use Rattle.record.specs.declared.Mode.the-variants.{Trimmed, Voided, Partial}
 use Rattle.record.specs.declared.Part.{Part}
 use Rattle.record.specs.declared.Column.{Column}
 use Rattle.record.specs.declared.Hold.{Hold}
-use Rattle.record.specs.declared.Added.the-variants.{Full}
+use Rattle.columns.specs.declared.Added.the-variants.{Full}
 use Rattle.record.specs.Filler.{noHold, noPart}
-use Rattle.record.specs.Limits.{shipLimits, loadLimits, columnLimits, placeLimits, cellsOf, sectionLimits, partLimits, partsOf}
-use Rattle.record.specs.Columns.{held, inOrder}
-use Rattle.record.proofs.Taken.{answer-full}
+use Rattle.limits.specs.Limits.{shipLimits, loadLimits, columnLimits, placeLimits, sectionLimits, partLimits}
+use Rattle.record.specs.Held.{cellsOf, partsOf}
+use Rattle.record.specs.Held.{held}
+use Rattle.columns.specs.Columns.{inOrder}
+use Rattle.columns.proofs.Adding.{answer-full}
 use Rattle.grain.specs.Sum.{weightMoment}
 use Rattle.grain.proofs.Walks.{part-within, cells-section}
 use Rattle.grain.proofs.Weights.{total-changed, nothing-weighs, nothing-held, hold-within}

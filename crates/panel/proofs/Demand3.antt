@@ -8,7 +8,8 @@ use lib.ListN.{length, getD}
 use lib.Seq.{getD-take}
 use borrow.Author.Tests.{le-leb}
 use Rattle.record.specs.declared.Column.{Column}
-use Rattle.record.specs.Columns.{held, noColumn}
+use Rattle.record.specs.Held.{held}
+use Rattle.record.specs.Filler.{noColumn}
 use Rattle.stability.specs.declared.Around.the-variants.{At}
 use Rattle.stability.specs.Arms.{columnsAround}
 use Rattle.stability.specs.Verdict.{verdictOf}

@@ -9,12 +9,13 @@ use Rattle.whole.proofs.Lists.{and-true}
 use Rattle.record.specs.declared.Ship.{Ship}
 use Rattle.record.specs.declared.Load.{Load}
 use Rattle.record.specs.declared.Column.{Column}
-use Rattle.record.specs.declared.Added.{Added}
-use Rattle.record.specs.declared.Added.the-variants.{Taken, Limits, Full, NotAbove}
+use Rattle.columns.specs.declared.Added.{Added}
+use Rattle.columns.specs.declared.Added.the-variants.{Taken, Limits, Full, NotAbove}
 use Rattle.record.specs.declared.Hold.{Hold}
 use Rattle.record.specs.Filler.{noHold}
-use Rattle.record.specs.Limits.{shipLimits, loadLimits, holdLimits, placeLimits}
-use Rattle.record.specs.Columns.{held, columnAnswer, addedCode, withColumn}
+use Rattle.limits.specs.Limits.{shipLimits, loadLimits, holdLimits, placeLimits}
+use Rattle.record.specs.Held.{held}
+use Rattle.columns.specs.Columns.{columnAnswer, addedCode, withColumn}
 use Rattle.grain.specs.Sum.{holdFits}
 use Rattle.panel.specs.declared.Condition.{Condition}
 use Rattle.panel.specs.declared.Judged.{Judged}

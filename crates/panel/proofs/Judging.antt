@@ -12,9 +12,10 @@ use borrow.Author.Tests.{le-leb}
 use Rattle.whole.specs.Lists.{all}
 use Rattle.record.specs.declared.Column.{Column}
 use Rattle.record.specs.declared.Hold.{Hold}
-use Rattle.record.specs.Filler.{noHold}
-use Rattle.record.specs.Limits.{loadLimits, holdLimits}
-use Rattle.record.specs.Columns.{held, noColumn, inOrder}
+use Rattle.record.specs.Filler.{noHold, noColumn}
+use Rattle.limits.specs.Limits.{loadLimits, holdLimits}
+use Rattle.record.specs.Held.{held}
+use Rattle.columns.specs.Columns.{inOrder}
 use Rattle.grain.specs.Sum.{holdFits}
 use Rattle.stability.specs.declared.Around.{Around}
 use Rattle.stability.specs.declared.Around.the-variants.{At, Outside}
@@ -31,7 +32,8 @@ use Rattle.panel.proofs.Sequence.{Fitting, taken-order}
 -- ---- D that has columns around it is between the first and the last
 pub inside-ends : (d : ℕ) (ks : List Column) (i : ℕ) → inOrder ks ≡ true → columnsAround d ks ≡ At i → (getD ks 0 noColumn .d ≤ d) × (d ≤ lastD ks)
 unfolding columnsAround
-inside-ends d [] i o e = let z : _≡_ {A = ℕ} 0 1 = cc in absurd (omega arith)
+inside-ends d [] i o e =
+    let z : _≡_ {A = ℕ} 0 1 = cc in absurd (omega arith)
 inside-ends d (a ∷ ks) i o e = (first (decLe (a .d) d), last (decLe d (lastD (a ∷ ks))))
   where
     clash : columnsAround d (a ∷ ks) ≡ Outside → ⊥
@@ -59,7 +61,8 @@ all-of f [] d h = refl
 all-of f (x ∷ l) d h = rw (h 0 (omega arith), all-of f l d (λ i p. h (suc i) (omega arith)))
 
 sound-by : (h : Hold) (x : Bool) → isHeld h ≡ x → (isHeld h ≡ true → (holdLimits h ≡ true) × (holdFits h ≡ true)) → (not x || holdLimits h && holdFits h) ≡ true
-sound-by h true e f = let t = f e in rw (t .0, t .1)
+sound-by h true e f =
+    let t = f e in rw (t .0, t .1)
 sound-by h false e f = refl
 
 -- ---- a condition within its limits

@@ -13,10 +13,11 @@ use Rattle.record.specs.declared.Column.{Column}
 use Rattle.record.specs.declared.Columns.{Columns}
 use Rattle.record.specs.declared.Part.{Part}
 use Rattle.record.specs.declared.Hold.{Hold}
-use Rattle.record.specs.declared.Added.the-variants.{Taken}
+use Rattle.columns.specs.declared.Added.the-variants.{Taken}
 use Rattle.record.specs.Filler.{noPart, noHold}
-use Rattle.record.specs.Limits.{shipLimits, loadLimits, placeLimits}
-use Rattle.record.specs.Columns.{held, columnAnswer, withColumn}
+use Rattle.limits.specs.Limits.{shipLimits, loadLimits, placeLimits}
+use Rattle.record.specs.Held.{held}
+use Rattle.columns.specs.Columns.{columnAnswer, withColumn}
 use Rattle.text.specs.Token.{tokens}
 use Rattle.request.specs.declared.Kind.{Kind}
 use Rattle.request.specs.declared.Kind.the-variants.{ShipLine, ColumnLine, LoadLine, HoldLine, DropLine, JudgeLine, ClearLine, NoShape}

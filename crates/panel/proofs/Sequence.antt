@@ -11,9 +11,10 @@ use lib.Seq.{length-take-le, take-suc-set, append-snoc}
 use Rattle.whole.proofs.Lists.{and-true}
 use Rattle.record.specs.declared.Column.{Column}
 use Rattle.record.specs.declared.Columns.{Columns}
-use Rattle.record.specs.declared.Added.the-variants.{Taken}
-use Rattle.record.specs.Limits.{columnLimits}
-use Rattle.record.specs.Columns.{held, isAbove, columnAnswer, inOrder, withColumn}
+use Rattle.columns.specs.declared.Added.the-variants.{Taken}
+use Rattle.limits.specs.Limits.{columnLimits}
+use Rattle.record.specs.Held.{held}
+use Rattle.columns.specs.Columns.{isAbove, columnAnswer, inOrder, withColumn}
 use Rattle.panel.specs.declared.Condition.{Condition}
 use Rattle.panel.specs.Condition.{withColumns}
 use Rattle.panel.specs.Operations.{columnOperation}

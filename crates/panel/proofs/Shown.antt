@@ -5,8 +5,9 @@ use Prim.Native.Nat.{ℕ, _≤_}
 use lib.Dec.{leb}
 use lib.ListN.{length}
 use Rattle.whole.specs.Lists.{all}
-use Rattle.record.specs.Limits.{shipLimits, loadLimits}
-use Rattle.record.specs.Columns.{held, inOrder}
+use Rattle.limits.specs.Limits.{shipLimits, loadLimits}
+use Rattle.record.specs.Held.{held}
+use Rattle.columns.specs.Columns.{inOrder}
 use Rattle.stability.specs.declared.Verdict.{Verdict}
 use Rattle.stability.specs.declared.Around.{Around}
 use Rattle.stability.specs.declared.Around.the-variants.{At, Outside}

@@ -12,10 +12,10 @@ use Rattle.record.specs.declared.Column.{Column}
 use Rattle.record.specs.declared.Hold.{Hold}
 use Rattle.record.specs.declared.Mode.the-variants.{Trimmed}
 use Rattle.record.specs.Filler.{noHold}
-use Rattle.record.specs.declared.Added.{Added}
-use Rattle.record.specs.declared.Added.the-variants.{Taken, Limits, Full, NotAbove}
-use Rattle.record.specs.Limits.{columnLimits, holdLimits, placeLimits}
-use Rattle.record.specs.Columns.{isAbove, columnAnswer}
+use Rattle.columns.specs.declared.Added.{Added}
+use Rattle.columns.specs.declared.Added.the-variants.{Taken, Limits, Full, NotAbove}
+use Rattle.limits.specs.Limits.{columnLimits, holdLimits, placeLimits}
+use Rattle.columns.specs.Columns.{isAbove, columnAnswer}
 use Rattle.grain.specs.declared.Weighed.{Weighed}
 use Rattle.grain.specs.declared.Weighed.the-variants.{Weight, NoFit, Limits as Outside}
 use Rattle.grain.specs.Sum.{holdFits, weightMoment, weighedOf}

@@ -10,7 +10,7 @@ use borrow.Author.Tests.{le-leb, lt-leb, lt-ltb, le-ltb, leb-true}
 use Rattle.whole.specs.Lists.{all, sumOf}
 use Rattle.whole.proofs.Lists.{and-true, sum-next, sum-end, all-stop, all-go, all-done}
 use Rattle.record.specs.declared.Hold.{Hold}
-use Rattle.record.specs.Limits.{holdLimits}
+use Rattle.limits.specs.Limits.{holdLimits}
 use Rattle.grain.specs.declared.Weighed.{Weighed}
 use Rattle.grain.specs.declared.Weighed.the-variants.{Weight, Limits, NoFit}
 use Rattle.grain.specs.Sum.{holdFits, weightMoment, totalWeight, weighedOf}

@@ -8,8 +8,7 @@ use Rattle.record.specs.declared.Ship.{Ship}
 use Rattle.record.specs.declared.Load.{Load}
 use Rattle.record.specs.declared.Columns.{Columns}
 use Rattle.record.specs.declared.Hold.{Hold}
-use Rattle.record.specs.Columns.{noColumns}
-use Rattle.record.specs.Filler.{noHold}
+use Rattle.record.specs.Filler.{noColumns, noHold}
 use Rattle.panel.specs.declared.Condition.{Condition}
 
 abbrev pub noShip : Ship

@@ -11,9 +11,9 @@ use Rattle.record.specs.declared.Mode.{Mode}
 use Rattle.record.specs.declared.Mode.the-variants.{Trimmed, Voided, Partial}
 use Rattle.record.specs.declared.Ship.{Ship}
 use Rattle.record.specs.declared.Load.{Load}
-use Rattle.record.specs.Limits.{columnLimits, cellsOf, partsOf}
-use Rattle.record.specs.Columns.{held, noColumn}
-use Rattle.record.specs.Filler.{noHold, noPart}
+use Rattle.limits.specs.Limits.{columnLimits}
+use Rattle.record.specs.Held.{cellsOf, partsOf, held}
+use Rattle.record.specs.Filler.{noColumn, noHold, noPart}
 use Rattle.grain.specs.Sum.{weightMoment}
 use Rattle.grain.specs.Exact.{SectionAccuracy}
 use Rattle.stability.specs.declared.Around.the-variants.{At}

@@ -9,8 +9,10 @@ use lib.Dec.{leb}
 use lib.ListN.{length, getD}
 use Rattle.whole.specs.Lists.{all}
 use Rattle.record.specs.declared.Hold.{Hold}
-use Rattle.record.specs.Limits.{shipLimits, loadLimits, holdLimits}
-use Rattle.record.specs.Columns.{held, noColumn, inOrder}
+use Rattle.limits.specs.Limits.{shipLimits, loadLimits, holdLimits}
+use Rattle.record.specs.Held.{held}
+use Rattle.record.specs.Filler.{noColumn}
+use Rattle.columns.specs.Columns.{inOrder}
 use Rattle.grain.specs.Sum.{holdFits, weightMoment, totalWeight}
 use Rattle.stability.specs.declared.Basis.{Basis}
 use Rattle.stability.specs.declared.Around.{Around}

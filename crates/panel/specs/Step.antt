@@ -6,8 +6,9 @@ use Prim.Native.Nat.{ℕ}
 use lib.Dec.{ltb, leb, eqb}
 use Rattle.record.specs.declared.Column.{Column}
 use Rattle.record.specs.declared.Hold.{Hold}
-use Rattle.record.specs.Limits.{placeLimits}
-use Rattle.record.specs.Columns.{held, withColumn}
+use Rattle.limits.specs.Limits.{placeLimits}
+use Rattle.record.specs.Held.{held}
+use Rattle.columns.specs.Columns.{withColumn}
 use Rattle.record.specs.Filler.{noHold}
 use Rattle.stability.specs.Verdict.{judgementCode}
 use Rattle.text.specs.declared.Reading.{Reading}

@@ -6,8 +6,8 @@ use Prim.Native.Nat.{ℕ, _+_, _-_, _≤_, _<_}
 use lib.ListN.{length, getD}
 use Rattle.record.specs.declared.Column.{Column}
 use Rattle.record.specs.declared.Part.{Part}
-use Rattle.record.specs.Columns.{held, noColumn}
-use Rattle.record.specs.Filler.{noHold}
+use Rattle.record.specs.Held.{held}
+use Rattle.record.specs.Filler.{noColumn, noHold}
 use Rattle.panel.specs.declared.Condition.{Condition}
 use Rattle.panel.specs.Condition.{empty, isHeld}
 use Rattle.panel.specs.Operations.{shipOperation, loadOperation, columnOperation, holdOperation}

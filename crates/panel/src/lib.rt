@@ -1,6 +1,6 @@
 // The condition that the panel keeps, each operation on it, and the step of one line.
+use columns::Added;
 use grain::Weighed;
-use record::Added;
 use record::Column;
 use record::Columns;
 use record::Hold;
@@ -19,8 +19,9 @@ ghost use mathlib.Core.Bool.{cond, _&&_};
 ghost use Prim.Native.Nat.{_-_, _≤_};
 ghost use lib.ListN.{length, getD};
 ghost use lib.Dec.{leb};
-ghost use Rattle.record.specs.Columns.{held, inOrder, addedCode, withColumn};
-ghost use Rattle.record.specs.Limits.{placeLimits};
+ghost use Rattle.record.specs.Held.{held};
+ghost use Rattle.columns.specs.Columns.{inOrder, addedCode, withColumn};
+ghost use Rattle.limits.specs.Limits.{placeLimits};
 ghost use Rattle.record.specs.Filler.{noHold};
 ghost use Rattle.stability.specs.Verdict.{judgementCode};
 ghost use Rattle.reply.specs.Replies.{answerReply};
@@ -112,11 +113,11 @@ fn is_held(holds: [Hold; 16], n: u32) -> bool
 fn in_order(cs: Columns) -> bool
     ensures { λ r. ⌜ r ≡ inOrder (held cs) ⌝ }
 {
-    let n = whole::smaller(cs.count as u64, 20) as usize;
+    let n = choice::smaller(cs.count as u64, 20) as usize;
     let mut i: usize = 0;
     while i < n {
         let k = cs.places[i];
-        if !record::column_limits(k) {
+        if !limits::column_limits(k) {
             return false;
         }
         if n <= i + 1 {
@@ -135,7 +136,7 @@ fn in_order(cs: Columns) -> bool
 fn enough_columns(cs: Columns) -> bool
     ensures { λ r. ⌜ r ≡ (leb 2 (length (held cs)) && inOrder (held cs)) ⌝ }
 {
-    whole::both(2 <= cs.count, in_order(cs))
+    choice::both(2 <= cs.count, in_order(cs))
 }
 
 // The weight moment of one place: nothing where it holds no hold.
@@ -211,7 +212,7 @@ fn judge(c: Condition) -> Judged
     ensures { λ r. ⌜ r ≡ judgedOf c ⌝ }
 {
     let ship = c.ship;
-    if !whole::both(c.shipped, record::ship_limits(ship)) {
+    if !choice::both(c.shipped, limits::ship_limits(ship)) {
         return Judged::Refused(30);
     }
     let columns = c.columns;
@@ -219,7 +220,7 @@ fn judge(c: Condition) -> Judged
         return Judged::Refused(31);
     }
     let load = c.load;
-    if !whole::both(c.loaded, record::load_limits(load)) {
+    if !choice::both(c.loaded, limits::load_limits(load)) {
         return Judged::Refused(32);
     }
     let around = stability::columns_around(columns, load.d);
@@ -235,7 +236,7 @@ fn judge(c: Condition) -> Judged
 fn ship_code(s: Ship) -> u8
     ensures { λ r. ⌜ ((c : Condition) → r ≡ shipOperation c s .code) ⌝ }
 {
-    if !record::ship_limits(s) {
+    if !limits::ship_limits(s) {
         return 20;
     }
     0
@@ -245,7 +246,7 @@ fn ship_code(s: Ship) -> u8
 fn load_code(l: Load) -> u8
     ensures { λ r. ⌜ ((c : Condition) → r ≡ loadOperation c l .code) ⌝ }
 {
-    if !record::load_limits(l) {
+    if !limits::load_limits(l) {
         return 20;
     }
     0
@@ -268,7 +269,7 @@ fn column_code(c: Condition, k: Column) -> u8
     ensures { λ r. ⌜ r ≡ columnOperation c k .code ⌝ }
 {
     let ks = c.columns;
-    added_code(record::column_answer(ks, k))
+    added_code(columns::column_answer(ks, k))
 }
 
 // The paper's code for each answer of a hold.
@@ -286,7 +287,7 @@ fn weighed_code(w: Weighed) -> u8
 fn hold_code(n: u32, h: Hold) -> u8
     ensures { λ r. ⌜ ((c : Condition) → r ≡ holdOperation c n h .code) ⌝ }
 {
-    if !record::place_limits(n) {
+    if !limits::place_limits(n) {
         return 20;
     }
     weighed_code(grain::weigh(h))
@@ -296,7 +297,7 @@ fn hold_code(n: u32, h: Hold) -> u8
 fn drop_code(c: Condition, n: u32) -> u8
     ensures { λ r. ⌜ r ≡ dropOperation c n .code ⌝ }
 {
-    if !record::place_limits(n) {
+    if !limits::place_limits(n) {
         return 20;
     }
     let holds = c.holds;
@@ -340,9 +341,14 @@ pub fn hear(line: &[u8]) -> Heard
 {
     let found = reading_code(text::reading_of(line));
     if found != 0 {
+        let request = Request {
+            kind: Kind::NoShape,
+            hold: record::no_hold(),
+            column: record::no_column(),
+        };
         return Heard {
             code: found,
-            request: request::plain(Kind::NoShape),
+            request,
         };
     }
     let request = request::request_of(line);
@@ -445,14 +451,14 @@ fn with_column(c: Condition, k: Column) -> Condition
         return c;
     }
     let mut after = c;
-    after.columns = record::with_column(ks, k);
+    after.columns = columns::with_column(ks, k);
     after
 }
 
 fn with_hold(c: Condition, n: u32, h: Hold) -> Condition
     ensures { λ r. ⌜ r ≡ cond (placeLimits n) (withHold c n h) c ⌝ }
 {
-    if !record::place_limits(n) {
+    if !limits::place_limits(n) {
         return c;
     }
     let at = (n - 1) as usize;

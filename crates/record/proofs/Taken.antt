@@ -1,11 +1,7 @@
--- The cells of a part, the parts of a hold and the last column, as the code reads them from its arrays.
-use mathlib.Core.Path.{_≡_, refl, ap, _∙_}
-use mathlib.Core.List.{List, [], _∷_}
-use Prim.Native.Nat.{ℕ, zero, suc, _-_, _≤_, _<_}
-use native.Mathlib.Omega.{arith}
-use mathlib.Core.Bool.{Bool, true, false, cond}
-use lib.Dec.{ltb}
-use borrow.Author.Tests.{le-leb, lt-leb}
+-- The cells of a part, as the code reads them from its array, and what is read past the end of an array.
+use mathlib.Core.Path.{_≡_, ap, _∙_}
+use mathlib.Core.List.{[]}
+use Prim.Native.Nat.{ℕ, _-_, _≤_, _<_}
 use lib.ListN.{length, getD, take, length-map, List·getD-map}
 use lib.Seq.{length-take-le, getD-take}
 use Rattle.record.specs.declared.Cell.{Cell}
@@ -13,9 +9,7 @@ use Rattle.record.specs.declared.Cell.the-variants.{Wing}
 use Rattle.record.specs.declared.Slot.{Slot}
 use Rattle.record.specs.declared.Part.{Part}
 use Rattle.record.specs.declared.Column.{Column}
-use Rattle.record.specs.declared.Added.the-variants.{Taken, Limits, Full, NotAbove}
-use Rattle.record.specs.Limits.{cellsOf, columnLimits}
-use Rattle.record.specs.Columns.{isAbove, columnAnswer}
+use Rattle.record.specs.Held.{cellsOf}
 
 -- what is read past the end of an array: zeros, the first variant, empty lists
 abbrev pub pastCell : Cell
@@ -38,35 +32,3 @@ module _ (p : Part) (fits : p .count ≤ length (p .cells)) where
   cell-at i h =
       List·getD-map (λ (s : Slot). s .cell) (take (p .count) (p .cells)) i pastSlot
       ∙ ap (λ (s : Slot). s .cell) (getD-take (p .count) (p .cells) i pastSlot h)
-
--- a column above the last of the first n + 1
-above-suc : (d : ℕ) (l : List Column) (n : ℕ) (z : Column) → n < length l → isAbove d (take (suc n) l) ≡ ltb (getD l n z .d) d
-unfolding isAbove
-above-suc d [] n z h = absurd (omega arith)
-above-suc d (k ∷ l) zero z h = refl
-above-suc d (k ∷ []) (suc n) z h = absurd (omega arith)
-above-suc d (k ∷ m ∷ l) (suc n) z h = above-suc d (m ∷ l) n z (omega arith)
-
-pub above-last : (d : ℕ) (l : List Column) (n : ℕ) (z : Column) → 0 < n → n ≤ length l → isAbove d (take n l) ≡ ltb (getD l (n - 1) z .d) d
-above-last d l n z p h =
-    let e : n ≡ suc (n - 1) = omega arith in
-    ap (λ m. isAbove d (take m l)) e ∙ above-suc d l (n - 1) z (omega arith)
-
-pub above-none : (d : ℕ) (l : List Column) (n : ℕ) → n ≡ 0 → isAbove d (take n l) ≡ true
-unfolding isAbove
-above-none d l n e = rw e refl
-
--- the answers of a list of columns, each by the test that gives it
-module _ (ks : List Column) (k : Column) where
-  pub answer-limits : columnLimits k ≡ false → Limits ≡ columnAnswer ks k
-  unfolding columnAnswer
-  answer-limits e = rw e refl
-
-  module _ (good : columnLimits k ≡ true) where
-    pub answer-full : 20 ≤ length ks → Full ≡ columnAnswer ks k
-    unfolding columnAnswer
-    answer-full h = rw (good, le-leb 20 (length ks) h) refl
-
-    pub answer-above : (b : Bool) → length ks < 20 → isAbove (k .d) ks ≡ b → cond b Taken NotAbove ≡ columnAnswer ks k
-    unfolding columnAnswer
-    answer-above b h e = rw (good, lt-leb 20 (length ks) h, e) refl

@@ -7,6 +7,8 @@ use Rattle.record.specs.declared.Cell.the-variants.{Void}
 use Rattle.record.specs.declared.Slot.{Slot}
 use Rattle.record.specs.declared.Part.{Part}
 use Rattle.record.specs.declared.Hold.{Hold}
+use Rattle.record.specs.declared.Column.{Column}
+use Rattle.record.specs.declared.Columns.{Columns}
 
 abbrev pub noSlot : Slot
 noSlot = record { cell = Void 0 0 0 }
@@ -17,6 +19,14 @@ noPart = record { length = 0; breadth = 0; void = 0; grain = 0; count = 0; cells
 -- a place where no hold is held
 abbrev pub noHold : Hold
 noHold = record { head = record { mode = Trimmed; factor = 0; count = 0 }; parts = replicate 6 noPart }
+
+-- an unused place
+abbrev pub noColumn : Column
+noColumn = record { d = 0; km = 0; kn = replicate 10 0 }
+
+-- no columns
+abbrev pub noColumns : Columns
+noColumns = record { count = 0; places = replicate 20 noColumn }
 
 -- a list in the first of n places
 unfoldable pub padded : {A : Type 0} → ℕ → A → List A → List A

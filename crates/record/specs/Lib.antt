@@ -1,3 +1,2 @@
-pub mod Limits
-pub mod Columns
+pub mod Held
 pub mod Filler

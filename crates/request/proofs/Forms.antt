@@ -9,8 +9,7 @@ use Rattle.record.specs.declared.Mode.the-variants.{Trimmed, Voided, Partial}
 use Rattle.record.specs.declared.Cell.{Cell}
 use Rattle.record.specs.declared.Part.{Part}
 use Rattle.record.specs.declared.Column.{Column}
-use Rattle.record.specs.Columns.{noColumn}
-use Rattle.record.specs.Filler.{noHold}
+use Rattle.record.specs.Filler.{noColumn, noHold}
 use Rattle.text.specs.Token.{Token}
 use Rattle.request.specs.declared.Kind.{Kind}
 use Rattle.request.specs.declared.Kind.the-variants.{HoldLine, JudgeLine, ClearLine, NoShape}

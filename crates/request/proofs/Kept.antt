@@ -21,7 +21,8 @@ use Rattle.record.specs.declared.Mode.{Mode}
 use Rattle.record.specs.declared.Mode.the-variants.{Trimmed, Voided, Partial}
 use Rattle.record.specs.declared.Part.{Part}
 use Rattle.record.specs.declared.Hold.{Hold}
-use Rattle.record.specs.Limits.{edge, displacement, shipLimits, loadLimits, columnLimits, cellWidth, cellLimits, cellsOf, sectionLimits, slackLimits, partLimits, partsOf, holdLimits}
+use Rattle.limits.specs.Limits.{edge, displacement, shipLimits, loadLimits, columnLimits, cellLimits, sectionLimits, slackLimits, partLimits, holdLimits}
+use Rattle.record.specs.Held.{cellWidth, cellsOf, partsOf}
 use Rattle.request.specs.Carried.{carried, carriedRule, carriedShip, carriedLoad, carriedColumn, carriedCell, carriedSlot, carriedPart, carriedHold}
 
 -- a number that fits its field is carried as it is; any other is above every limit, and so is 65,535

@@ -14,7 +14,8 @@ use Rattle.record.specs.declared.Cell.{Cell}
 use Rattle.record.specs.declared.Slot.{Slot}
 use Rattle.record.specs.declared.Mode.{Mode}
 use Rattle.record.specs.declared.Part.{Part}
-use Rattle.record.specs.Limits.{cellsOf, sectionLimits, slackLimits, partLimits, holdLimits}
+use Rattle.record.specs.Held.{cellsOf}
+use Rattle.limits.specs.Limits.{sectionLimits, slackLimits, partLimits, holdLimits}
 use Rattle.record.specs.Filler.{noSlot, noPart, noHold, padded}
 use Rattle.text.specs.Token.{Token}
 use Rattle.request.specs.declared.Kind.{Kind}

@@ -12,8 +12,7 @@ use Rattle.record.specs.declared.Cell.{Cell}
 use Rattle.record.specs.declared.Cell.the-variants.{Wing, Hatch, Void}
 use Rattle.record.specs.declared.Part.{Part}
 use Rattle.record.specs.declared.Hold.{Hold}
-use Rattle.record.specs.Columns.{noColumn}
-use Rattle.record.specs.Filler.{noSlot, noPart, noHold, padded}
+use Rattle.record.specs.Filler.{noColumn, noSlot, noPart, noHold, padded}
 use Rattle.text.specs.Token.{Token}
 use Rattle.request.specs.declared.Kind.{Kind}
 use Rattle.request.specs.declared.Kind.the-variants.{ShipLine, ColumnLine, LoadLine, HoldLine, DropLine, JudgeLine, ClearLine, NoShape}

@@ -209,7 +209,7 @@ fn sizes_at(s: &[u8], at: usize, want: usize) -> Sizes
 
 // ---- a request without hold or column
 
-pub fn plain(kind: Kind) -> Request
+fn plain(kind: Kind) -> Request
     ensures { λ r. ⌜ r ≡ Shape·plain kind ⌝ }
 {
     Request {

@@ -313,7 +313,7 @@ pub fn serve(lines: u64, bytes: u64) {
         if left == 0 {
             return;
         }
-        let most = whole::smaller(more, 65536) as usize;
+        let most = choice::smaller(more, 65536) as usize;
         let n = fetch(&mut block, most);
         if n == 0 {
             finish(f, &line, &mut out);

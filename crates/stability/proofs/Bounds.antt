@@ -15,7 +15,7 @@ use Rattle.whole.proofs.Lines.{line-le}
 use Rattle.whole.proofs.Dividing.{ceil-le, floor-le}
 use Rattle.record.specs.declared.Column.{Column}
 use Rattle.record.specs.declared.Load.{Load}
-use Rattle.record.specs.Limits.{displacement, columnLimits, loadLimits}
+use Rattle.limits.specs.Limits.{displacement, columnLimits, loadLimits}
 use Rattle.stability.specs.declared.Basis.{Basis}
 use Rattle.stability.specs.Angles.{angle, sine}
 use Rattle.stability.specs.Arms.{span, past, fluidKG, knArm, kgArm, rightingArm, heelingArm, diff, rightingArms, heelingArms, diffs}

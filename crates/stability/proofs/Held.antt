@@ -18,8 +18,9 @@ use Rattle.whole.proofs.Lines.{line-start, line-end, rounded-whole}
 use Rattle.whole.proofs.Lists.{and-true}
 use Rattle.record.specs.declared.Column.{Column}
 use Rattle.record.specs.declared.Load.{Load}
-use Rattle.record.specs.Limits.{columnLimits}
-use Rattle.record.specs.Columns.{inOrder, noColumn}
+use Rattle.limits.specs.Limits.{columnLimits}
+use Rattle.columns.specs.Columns.{inOrder}
+use Rattle.record.specs.Filler.{noColumn}
 use Rattle.record.specs.declared.Ship.{Ship}
 use Rattle.stability.specs.declared.Basis.{Basis}
 use Rattle.stability.specs.Verdict.{verdictOf}
@@ -104,7 +105,8 @@ first-le a (b ∷ ks) e =
     omega (arith, t .0, first-le b ks (t .1), last-more a b ks)
 
 next-outside : (x : Around) → next x ≡ Outside → x ≡ Outside
-next-outside (At i) e = let z : _≡_ {A = ℕ} 0 1 = cc in absurd (omega arith)
+next-outside (At i) e =
+    let z : _≡_ {A = ℕ} 0 1 = cc in absurd (omega arith)
 next-outside Outside e = refl
 
 -- inside the first pair; or what the rest answers
@@ -155,7 +157,8 @@ between-found d a b (c ∷ ks) f t o =
 -- ---- what a place found says: the two columns there stand around D
 moved-at : (x : Around) (i : ℕ) → next x ≡ At i → (j : ℕ) × (i ≡ suc j) × (x ≡ At j)
 moved-at (At j) i e = (j, cc, refl)
-moved-at Outside i e = let z : _≡_ {A = ℕ} 0 1 = cc in absurd (omega arith)
+moved-at Outside i e =
+    let z : _≡_ {A = ℕ} 0 1 = cc in absurd (omega arith)
 
 pub record Standing (d : ℕ) (ks : List Column) (i : ℕ) : Type 0 where
   pub place : i + 1 < length ks
@@ -185,8 +188,10 @@ limits-first a (b ∷ ks) e =
 
 pub around-at : (d : ℕ) (ks : List Column) (i : ℕ) → inOrder ks ≡ true → columnsAround d ks ≡ At i → Standing d ks i
 unfolding columnsAround
-around-at d [] i o e = let z : _≡_ {A = ℕ} 0 1 = cc in absurd (omega arith)
-around-at d (a ∷ []) i o e = let z : _≡_ {A = ℕ} 0 1 = cc in absurd (omega arith)
+around-at d [] i o e =
+    let z : _≡_ {A = ℕ} 0 1 = cc in absurd (omega arith)
+around-at d (a ∷ []) i o e =
+    let z : _≡_ {A = ℕ} 0 1 = cc in absurd (omega arith)
 around-at d (a ∷ b ∷ ks) i o e =
     go (leb (a .d) d && leb d (b .d)) refl (λ j f. around-at d (b ∷ ks) j (rising a b ks o .1) f)
   where

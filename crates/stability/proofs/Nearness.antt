@@ -7,7 +7,7 @@ use Rattle.whole.specs.Divide.{ceilDiv}
 use Rattle.whole.specs.Lists.{within}
 use Rattle.whole.proofs.Dividing.{ceil-low, ceil-high}
 use Rattle.whole.proofs.Lists.{and-true, within-true}
-use Rattle.record.specs.Limits.{loadLimits}
+use Rattle.limits.specs.Limits.{loadLimits}
 use Rattle.stability.specs.declared.Basis.{Basis}
 use Rattle.stability.specs.Angles.{angle, sine}
 use Rattle.stability.specs.Arms.{span, fluidKG, spanKN, knArm, kgArm, heelingArm, diffs}

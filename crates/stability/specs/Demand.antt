@@ -1,17 +1,15 @@
 -- Demand 3: what each code says of the exact values, and how near the figures shown are to them. Said of the two columns around D,
 -- a load and a weight moment within their limits, and of every ship.
 use mathlib.Core.Path.{_≡_}
-use mathlib.Core.Bool.{Bool, true, false}
+use mathlib.Core.Bool.{true}
 use mathlib.Core.Logic.{_↔_}
 use Prim.Native.Nat.{ℕ, _+_, _*_, _≤_, _<_}
 use lib.ListN.{length}
 use Rattle.whole.specs.Frac.{_≼_, _≺_}
 use Rattle.whole.specs.Sign.{plus, minus}
 use Rattle.record.specs.declared.Ship.{Ship}
-use Rattle.record.specs.Limits.{loadLimits, columnLimits}
+use Rattle.limits.specs.Limits.{loadLimits, columnLimits}
 use Rattle.stability.specs.declared.Basis.{Basis}
-use Rattle.stability.specs.declared.Judgement.{Judgement}
-use Rattle.stability.specs.declared.Judgement.the-variants.{Passed, ShortOfGm, ShortAtHeel, ShortBeyond, ShortOfArea}
 use Rattle.stability.specs.declared.Verdict.{Verdict}
 use Rattle.stability.specs.Angles.{angle, width, heelLimit}
 use Rattle.stability.specs.Arms.{diffs}

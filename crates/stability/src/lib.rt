@@ -9,7 +9,7 @@ ghost use Rattle.whole.specs.Divide.{ceilDiv};
 ghost use Rattle.whole.specs.Lists.{tabulate};
 ghost use Rattle.whole.specs.Sign.{plus, minus};
 ghost use Rattle.whole.specs.Line.{onLine};
-ghost use Rattle.record.specs.Columns.{held};
+ghost use Rattle.record.specs.Held.{held};
 ghost use Rattle.stability.specs.Angles.{angle, sine, heelLimit};
 ghost use Rattle.stability.specs.Arms.{columnsAround, gm, rightingArm, heelingArm, rightingArms, heelingArms, diffs};
 ghost use Rattle.stability.specs.Verdict.{stretchOf, diffAt, peak, upper, isBelow, failsAmong, failsBeyond, judgedBy, verdictFrom, verdictOf};
@@ -95,7 +95,7 @@ fn is_between(low: u32, d: u32, high: u32) -> bool
 pub fn columns_around(cs: Columns, d: u32) -> Around
     ensures { λ r. ⌜ r ≡ columnsAround d (held cs) ⌝ }
 {
-    let n = whole::smaller(cs.count as u64, 20) as usize;
+    let n = choice::smaller(cs.count as u64, 20) as usize;
     let mut i: usize = 0;
     while i + 1 < n {
         let a = cs.places[i];
@@ -320,8 +320,8 @@ fn ends_above(h: u64, t: u64, p1: u64, m1: u64, p2: u64, m2: u64) -> u64
     requires { ⌜ EndsFit h t p1 m1 p2 m2 ⌝ }
     ensures { λ r. ⌜ (r ≡ endsAbove h t p1 m1 p2 m2) × (r ≤ h * p1 + onLine h t p1 p2) ⌝ }
 {
-    let start = whole::beyond(h * p1, h * m1);
-    start + whole::beyond(whole::on_line(h, t, p1, p2), whole::on_line(h, t, m1, m2))
+    let start = choice::beyond(h * p1, h * m1);
+    start + choice::beyond(whole::on_line(h, t, p1, p2), whole::on_line(h, t, m1, m2))
 }
 
 // The area above zero under a line over t: the general case is the one that needs a long division.
@@ -410,7 +410,7 @@ fn heel_limit(s: Ship) -> u64
 {
     let rule = s.rule;
     match rule {
-        Rule::New(edge) => whole::smaller(1200, edge as u64),
+        Rule::New(edge) => choice::smaller(1200, edge as u64),
         Rule::Old(_) => 1200,
     }
 }
@@ -453,7 +453,7 @@ fn verdict_from(heel: u64, flood: u64, gm: i64, ds: [i64; 10]) -> Verdict
     requires { ⌜ Bounded ds × (heel ≤ 1200) ⌝ }
     ensures { λ r. ⌜ r ≡ verdictFrom heel (upper flood ds) gm ds ⌝ }
 {
-    let upper = whole::smaller(flood, angle_at(peak_of(ds)));
+    let upper = choice::smaller(flood, angle_at(peak_of(ds)));
     let diff = diff_at(ds, heel);
     let area = area_to(ds, upper);
     let judgement = judgement_of(gm, diff, fails_beyond(heel, upper, ds), area);

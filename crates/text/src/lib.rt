@@ -47,7 +47,7 @@ pub enum Next {
 fn is_within(lo: u8, hi: u8, b: u8) -> bool
     ensures { λ r. ⌜ r ≡ within lo hi b ⌝ }
 {
-    whole::both(lo <= b, b <= hi)
+    choice::both(lo <= b, b <= hi)
 }
 
 fn is_digit(b: u8) -> bool
@@ -60,15 +60,15 @@ fn is_digit(b: u8) -> bool
 fn in_run(b: u8) -> bool
     ensures { λ r. ⌜ r ≡ inRun b ⌝ }
 {
-    whole::either(is_within(97, 122, b), is_digit(b))
+    choice::either(is_within(97, 122, b), is_digit(b))
 }
 
 // Whether a byte may stand in a line.
 fn is_allowed(b: u8) -> bool
     ensures { λ r. ⌜ r ≡ allowed b ⌝ }
 {
-    whole::either(
-        whole::either(whole::either(in_run(b), b == 32), b == 40),
+    choice::either(
+        choice::either(choice::either(in_run(b), b == 32), b == 40),
         b == 41,
     )
 }
@@ -282,7 +282,7 @@ pub fn same(a: &[u8], b: &[u8]) -> bool
 fn starts_token(b: u8) -> bool
     ensures { λ r. ⌜ r ≡ startsToken b ⌝ }
 {
-    whole::either(whole::either(in_run(b), b == 40), b == 41)
+    choice::either(choice::either(in_run(b), b == 40), b == 41)
 }
 
 // The place of the next token, or the end of the line.

@@ -1,42 +1,13 @@
 // Whole-number arithmetic: division rounded up, roots, a product over a divisor, points on a straight line, and the
-// few functions that see the machine's signed numbers. Tests that are joined without a branch.
+// few functions that see the machine's signed numbers.
 ghost use mathlib.Core.Path.{_≡_};
-ghost use mathlib.Core.Bool.{_&&_, _||_};
-ghost use Prim.Native.Nat.{_+_, _*_, _/_, _%_, _-_, _<_, _≤_, _^_, min};
+ghost use Prim.Native.Nat.{_+_, _*_, _/_, _%_, _-_, _<_, _≤_, _^_};
 ghost use lib.Signed.{ltZ};
 ghost use lib.IntN.{pos, subℕ};
 ghost use Rattle.whole.specs.Divide.{ceilDiv};
 ghost use Rattle.whole.specs.Root.{root};
 ghost use Rattle.whole.specs.Sign.{plus, minus};
 ghost use Rattle.whole.specs.Line.{onLine, roundDown, lineAt};
-
-// Both tests, each made: a chain of these has no branch.
-pub fn both(a: bool, b: bool) -> bool
-    ensures { λ r. ⌜ r ≡ (a && b) ⌝ }
-{
-    if a { b } else { false }
-}
-
-// One of two tests, each made.
-pub fn either(a: bool, b: bool) -> bool
-    ensures { λ r. ⌜ r ≡ (a || b) ⌝ }
-{
-    if a { true } else { b }
-}
-
-// The smaller of two.
-pub fn smaller(a: u64, b: u64) -> u64
-    ensures { λ r. ⌜ r ≡ min a b ⌝ }
-{
-    if a <= b { a } else { b }
-}
-
-// How far a is beyond b: 0 where it is not.
-pub fn beyond(a: u64, b: u64) -> u64
-    ensures { λ r. ⌜ r ≡ a - b ⌝ }
-{
-    if b <= a { a - b } else { 0 }
-}
 
 // n / d, rounded up.
 pub fn divide_up(n: u64, d: u64) -> u64

@@ -7,7 +7,8 @@ use lib.ListN.{length, drop, getD}
 use lib.Seq.{length-take-le, getD-take}
 use Rattle.whole.specs.Lists.{all, sumOf}
 use Rattle.whole.proofs.Lists.{unmapped, all-at, all-stop, all-go, all-done, sum-next, sum-end}
-use Rattle.record.specs.Limits.{partsOf, partLimits}
+use Rattle.record.specs.Held.{partsOf}
+use Rattle.limits.specs.Limits.{partLimits}
 use Rattle.record.proofs.Taken.{pastPart}
 use Rattle.grain.specs.Sum.{partFits, partMoment, holdFits}
 use Rattle.grain.specs.Walk.{partAnswer, partsAnswer}

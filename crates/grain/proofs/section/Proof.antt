@@ -4,7 +4,7 @@ use Prim.Native.Nat.{_+_, _-_, _≤_}
 use native.Mathlib.Omega.{arith}
 use lib.ListN.{length}
 use Rattle.whole.proofs.Lists.{unmapped}
-use Rattle.record.specs.Limits.{cellsOf}
+use Rattle.record.specs.Held.{cellsOf}
 use Rattle.grain.proofs.Walks.{PartWithin, part-within, Ahead, ahead-start, part-room, part-next, part-last, part-not-negative}
 use Rattle.grain.proofs.section.Statement.{statement}
 use Rattle.grain.proofs.section.Tie as tie

@@ -5,7 +5,8 @@ use native.Mathlib.Omega.{arith}
 use native.Mathlib.Nat.{mul-le-mul}
 use borrow.Author.Tests.{not-true, not-false}
 use Rattle.whole.specs.Lists.{sumOf}
-use Rattle.record.specs.Limits.{partsOf, holdLimits}
+use Rattle.record.specs.Held.{partsOf}
+use Rattle.limits.specs.Limits.{holdLimits}
 use Rattle.grain.specs.Sum.{partMoment, holdMoment, weightMoment, holdFits, weighedOf}
 use Rattle.grain.specs.Walk.{partsAnswer}
 use Rattle.grain.proofs.Weights.{hold-within, parts-le, moment-of, no-fit-of}

@@ -1,5 +1,6 @@
 use mathlib.Core.Path.{sym, _∙_, ap}
-use Rattle.record.specs.Columns.{held, columnAnswer, addedCode}
+use Rattle.record.specs.Held.{held}
+use Rattle.columns.specs.Columns.{columnAnswer, addedCode}
 use Rattle.panel.specs.Operations.{columnOperation}
 use Rattle.panel.proofs.Effects.{change-code}
 use borrow.Author.Needs.{needs}

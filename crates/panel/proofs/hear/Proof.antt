@@ -11,11 +11,14 @@ reading-of-requires c κs = search needs
 reading-code-requires : tie.Need-reading-code-requires
 reading-code-requires c κs = search needs
 
-plain-requires : tie.Need-plain-requires
-plain-requires c κs = search needs
+no-hold-requires : tie.Need-no-hold-requires
+no-hold-requires c κs = search needs
+
+no-column-requires : tie.Need-no-column-requires
+no-column-requires c κs = search needs
 
 returns : tie.Need-returns
-returns c = rw (heard-down (c .before .before .before .before .before .args .line .now) (readingOf (c .before .before .before .before .before .args .line .now)) (c .before .before .reading-code .result) (c .before .before .reading-code .ensures ∙ ap readingCode (c .before .before .before .reading-of .ensures)) (c .before .if1 .taken), c .plain .ensures) refl
+returns c = rw (heard-down (c .before .before .before .before .before .before .args .line .now) (readingOf (c .before .before .before .before .before .before .args .line .now)) (c .before .before .before .reading-code .result) (c .before .before .before .reading-code .ensures ∙ ap readingCode (c .before .before .before .before .reading-of .ensures)) (c .before .before .if1 .taken), c .before .no-hold .ensures, c .no-column .ensures) refl
 
 request-of-requires : tie.Need-request-of-requires
 request-of-requires c κs = search needs
@@ -29,7 +32,8 @@ hear-spec =
     (tie.spec
     reading-of-requires
     reading-code-requires
-    plain-requires
+    no-hold-requires
+    no-column-requires
     returns
     request-of-requires
     returns-2)

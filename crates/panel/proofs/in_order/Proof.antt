@@ -5,8 +5,9 @@ use lib.ListN.{length, drop, length-take}
 use lib.Seq.{getD-take}
 use borrow.Author.Tests.{not-true, not-false}
 use Rattle.whole.proofs.Lists.{unmapped}
-use Rattle.record.specs.Columns.{held, inOrder}
-use Rattle.record.specs.Limits.{columnLimits}
+use Rattle.record.specs.Held.{held}
+use Rattle.columns.specs.Columns.{inOrder}
+use Rattle.limits.specs.Limits.{columnLimits}
 use Rattle.record.proofs.Taken.{pastColumn}
 use Rattle.panel.proofs.Columns.{order-none, order-limits, order-last, order-not-above, order-next}
 use borrow.Author.Needs.{needs}

@@ -1,6 +1,7 @@
 use lib.Dec.{leb}
-use Rattle.record.specs.Columns.{held, inOrder}
-use Rattle.record.specs.Limits.{loadLimits}
+use Rattle.record.specs.Held.{held}
+use Rattle.columns.specs.Columns.{inOrder}
+use Rattle.limits.specs.Limits.{loadLimits}
 use lib.ListN.{length}
 use Rattle.whole.proofs.Lists.{unmapped, and-true}
 use mathlib.Core.Path.{_≡_, sym, _∙_}

@@ -1,7 +1,7 @@
 use mathlib.Core.Path.{sym, _∙_}
 use native.Mathlib.Omega.{arith}
 use native.Mathlib.Numerals.{add-one}
-use Rattle.record.specs.Columns.{held}
+use Rattle.record.specs.Held.{held}
 use Rattle.stability.proofs.Held.{around-at}
 use Rattle.panel.proofs.Weighing.{weights-together, weights-refused}
 use Rattle.panel.proofs.Columns.{in-places}

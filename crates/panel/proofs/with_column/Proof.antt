@@ -3,7 +3,7 @@ use native.Mathlib.Omega.{arith}
 use lib.ListN.{length, length-take}
 use borrow.Author.Tests.{le-leb, lt-leb}
 use Rattle.whole.proofs.Lists.{unmapped}
-use Rattle.record.specs.Columns.{held}
+use Rattle.record.specs.Held.{held}
 use borrow.Author.Needs.{needs}
 use Rattle.panel.proofs.with_column.Statement.{statement}
 use Rattle.panel.proofs.with_column.Tie as tie

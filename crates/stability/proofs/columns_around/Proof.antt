@@ -7,7 +7,7 @@ use lib.Dec.{leb}
 use lib.ListN.{length, drop, getD, length-take}
 use lib.Seq.{getD-take}
 use Rattle.whole.proofs.Lists.{unmapped}
-use Rattle.record.specs.Columns.{held}
+use Rattle.record.specs.Held.{held}
 use Rattle.record.proofs.Taken.{pastColumn}
 use Rattle.stability.specs.Arms.{columnsAround}
 use Rattle.stability.proofs.Searching.{moved, moved-none, around-found, around-next, around-none}
