@@ -70,7 +70,13 @@ module _ (c : Condition) (line : List ℕ) (lent : ℕ) where
       hears (a .room) (a .sound) .outcome
       ∙ ap (λ (k : Kind). outcomeBy c k (request line .hold) (request line .column)) (a .asked)
 
-  -- a line that is taken has the outcome that it asks for
-  pub taken-as : (k : Kind) → request line .kind ≡ k → stepOf c line lent .code ≡ 0 → stepOf c line lent ≡ outcomeBy c k (request line .hold) (request line .column)
+  pub code-of : (k : Kind) → Asks line lent k → stepOf c line lent .code ≡ outcomeBy c k (request line .hold) (request line .column) .code
+  code-of k a = ap (λ (o : Outcome). o .code) (asked k a)
+
+  -- a line that is taken was heard, and has the outcome that it asks for
+  pub taken-asks : (k : Kind) → request line .kind ≡ k → stepOf c line lent .code ≡ 0 → Asks line lent k
   unfolding isOneOf
-  taken-as k e z = asked k (asks k (heard 0 z refl) e)
+  taken-asks k e z = asks k (heard 0 z refl) e
+
+  pub taken-as : (k : Kind) → request line .kind ≡ k → stepOf c line lent .code ≡ 0 → stepOf c line lent ≡ outcomeBy c k (request line .hold) (request line .column)
+  taken-as k e z = asked k (taken-asks k e z)

@@ -1,11 +1,10 @@
 -- The codes of each operation (document 01), and that every one but 00 leaves the condition as it was.
 use mathlib.Core.Path.{_≡_, refl, sym, ap, _∙_}
-use mathlib.Core.Bool.{Bool, true, false, cond, not, _&&_, _||_}
+use mathlib.Core.Bool.{Bool, true, false, cond, _&&_, _||_}
 use mathlib.Core.List.{List, [], _∷_}
 use Prim.Native.Nat.{ℕ}
 use native.Mathlib.Omega.{arith}
-use lib.Dec.{leb, eqb}
-use lib.ListN.{length}
+use lib.Dec.{eqb}
 use borrow.Author.Tests.{eqb-true}
 use Rattle.whole.specs.Lists.{all}
 use Rattle.whole.proofs.Lists.{and-true}
@@ -15,25 +14,24 @@ use Rattle.columns.specs.declared.Added.the-variants.{Taken, Limits, Full, NotA
 use Rattle.record.specs.declared.Hold.{Hold}
 use Rattle.limits.specs.Limits.{shipLimits, loadLimits, holdLimits, placeLimits}
 use Rattle.record.specs.Held.{held}
-use Rattle.columns.specs.Columns.{columnAnswer, inOrder}
+use Rattle.columns.specs.Columns.{columnAnswer}
 use Rattle.grain.specs.Sum.{holdFits}
-use Rattle.stability.specs.declared.Around.{Around}
-use Rattle.stability.specs.declared.Around.the-variants.{At, Outside}
 use Rattle.stability.specs.declared.Judgement.{Judgement}
 use Rattle.stability.specs.declared.Judgement.the-variants.{Passed, ShortOfGm, ShortAtHeel, ShortBeyond, ShortOfArea}
 use Rattle.stability.specs.declared.Verdict.{Verdict}
-use Rattle.stability.specs.Arms.{columnsAround}
 use Rattle.stability.specs.Verdict.{judgementCode, verdictOf}
 use Rattle.request.specs.declared.Kind.{Kind}
 use Rattle.request.specs.declared.Kind.the-variants.{ShipLine, ColumnLine, LoadLine, HoldLine, DropLine, JudgeLine, ClearLine, NoShape}
 use Rattle.panel.specs.declared.Condition.{Condition}
-use Rattle.panel.specs.declared.Judged.the-variants.{Given}
+use Rattle.panel.specs.declared.Judged.{Judged}
+use Rattle.panel.specs.declared.Judged.the-variants.{Refused, Given}
 use Rattle.panel.specs.Condition.{holdAt, isHeld}
 use Rattle.panel.specs.Operations.{taken, shipOperation, loadOperation, columnChange, columnOperation, holdOperation, dropOperation}
-use Rattle.panel.specs.Judge.{greatestWeight, soundPlace, weight, basisAt, judgedAt, judgedOf}
+use Rattle.panel.specs.Judge.{basisAt}
 use Rattle.panel.specs.Step.{Outcome, answered, verdictGiven, outcomeBy, stepOf}
 use Rattle.panel.specs.Demands.{request, Asks, isOneOf}
-use Rattle.panel.proofs.Asked.{early, requested, heard, asks, asked}
+use Rattle.panel.proofs.Shown.{refusals, judged-by}
+use Rattle.panel.proofs.Asked.{early, requested, heard, asks, code-of}
 
 -- a number of one list is of another that has all of it
 or-true : (x y r : Bool) → (x ≡ true → r ≡ true) → (y ≡ true → r ≡ true) → (x || y) ≡ true → r ≡ true
@@ -95,15 +93,12 @@ module _ (c : Condition) where
   right-verdict : (v : Verdict) → Right (codesOf JudgeLine) c (verdictGiven c (Given v))
   right-verdict v = right-same c _ _ (judgement-listed (v .judgement))
 
-  right-around : (a : Around) → Right (codesOf JudgeLine) c (verdictGiven c (judgedAt c a))
-  unfolding isOneOf
-  right-around Outside = right-same c _ _ refl
-  right-around (At i) =
-      right-if c (verdictGiven c) (all soundPlace (c .holds) && leb (weight c) greatestWeight)
-      (right-verdict (verdictOf (c .ship) (basisAt c i))) (right-same c _ _ refl)
+  right-refusal : (n : ℕ) → isOneOf refusals n ≡ true → Right (codesOf JudgeLine) c (verdictGiven c (Refused n))
+  unfolding isOneOf all
+  right-refusal n e = right-same c _ _ (among refusals (codesOf JudgeLine) n refl e)
 
   pub right-by : (k : Kind) (h : Hold) (col : Column) → Right (codesOf k) c (outcomeBy c k h col)
-  unfolding isOneOf shipOperation columnOperation loadOperation holdOperation dropOperation judgedOf
+  unfolding isOneOf shipOperation columnOperation loadOperation holdOperation dropOperation
   right-by (ShipLine s) h col = right-if c answered (shipLimits s) (right-taken c _ refl) (right-same c _ _ refl)
   right-by ColumnLine h col = right-change col (columnAnswer (held (c .columns)) col)
   right-by (LoadLine l) h col = right-if c answered (loadLimits l) (right-taken c _ refl) (right-same c _ _ refl)
@@ -114,10 +109,7 @@ module _ (c : Condition) where
       right-if c answered (placeLimits n)
       (right-if c answered (isHeld (holdAt c n)) (right-taken c _ refl) (right-same c _ _ refl)) (right-same c _ _ refl)
   right-by JudgeLine h col =
-      right-if c (verdictGiven c) (not (c .shipped && shipLimits (c .ship))) (right-same c _ _ refl)
-      (right-if c (verdictGiven c) (not (leb 2 (length (held (c .columns))) && inOrder (held (c .columns)))) (right-same c _ _ refl)
-      (right-if c (verdictGiven c) (not (c .loaded && loadLimits (c .load))) (right-same c _ _ refl)
-      (right-around (columnsAround (c .load .d) (held (c .columns))))))
+      judged-by c (λ (j : Judged). Right (codesOf JudgeLine) c (verdictGiven c j)) right-refusal (λ i. right-verdict (verdictOf (c .ship) (basisAt c i)))
   right-by ClearLine h col = right-taken c _ refl
   right-by NoShape h col = right-same c _ _ refl
 
@@ -151,4 +143,4 @@ only-asks c line lent n late k only e =
     let z : requested c line .code ≡ n = ap (λ (o : Outcome). o .code) (sym (h .outcome)) ∙ e in
     let r = right-by c (request line .kind) (request line .hold) (request line .column) .listed in
     let a = asks c line lent k h (only (request line .kind) (rw z at r)) in
-    (a, ap (λ (o : Outcome). o .code) (sym (asked c line lent k a)) ∙ e)
+    (a, sym (code-of c line lent k a) ∙ e)

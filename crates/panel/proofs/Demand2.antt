@@ -19,8 +19,7 @@ use Rattle.record.specs.declared.Hold.{Hold}
 use Rattle.columns.specs.declared.Added.the-variants.{Full}
 use Rattle.record.specs.Filler.{noHold, noPart}
 use Rattle.limits.specs.Limits.{shipLimits, loadLimits, columnLimits, placeLimits, sectionLimits, partLimits}
-use Rattle.record.specs.Held.{cellsOf, partsOf}
-use Rattle.record.specs.Held.{held}
+use Rattle.record.specs.Held.{cellsOf, partsOf, held}
 use Rattle.columns.specs.Columns.{inOrder}
 use Rattle.columns.proofs.Adding.{answer-full}
 use Rattle.grain.specs.Sum.{weightMoment}
@@ -35,19 +34,20 @@ use Rattle.stability.specs.declared.Verdict.{Verdict}
 use Rattle.stability.specs.Arms.{columnsAround}
 use Rattle.stability.specs.Verdict.{judgementCode, verdictOf}
 use Rattle.request.specs.declared.Kind.{Kind}
-use Rattle.request.specs.declared.Kind.the-variants.{ShipLine, ColumnLine, LoadLine, HoldLine, DropLine, JudgeLine, ClearLine}
+use Rattle.request.specs.declared.Kind.the-variants.{ColumnLine, HoldLine, DropLine, JudgeLine, ClearLine}
 use Rattle.panel.specs.declared.Condition.{Condition}
 use Rattle.panel.specs.declared.Judged.{Judged}
 use Rattle.panel.specs.declared.Judged.the-variants.{Refused, Given}
 use Rattle.panel.specs.Condition.{empty, withHold, holdAt, isHeld}
 use Rattle.panel.specs.Judge.{soundPlace, weight, basisAt, judgedAt, judgedOf}
-use Rattle.panel.specs.Step.{Outcome, verdictGiven, outcomeBy, stepOf}
-use Rattle.panel.specs.Within.{Within}
-use Rattle.panel.specs.Demands.{request, Asks, isOneOf, weightAt, WeightFollows, WeightIsTotal, TwentyThreeExactly, Ready, ThirtyFourExactly, HasSections, SectionsAreAccurate}
+use Rattle.panel.specs.Step.{Outcome, verdictGiven, stepOf}
+use Rattle.panel.specs.Within.{Within, Ready}
+use Rattle.panel.specs.Demands.{request, Asks, isOneOf, weightAt, WeightFollows, WeightIsTotal, TwentyThreeExactly, ThirtyFourExactly, HasSections, SectionsAreAccurate}
 use Rattle.panel.proofs.Taking.{full-is, place-within}
-use Rattle.panel.proofs.Asked.{asked, taken-as}
+use Rattle.panel.proofs.Asked.{code-of, taken-asks, taken-as}
 use Rattle.panel.proofs.Codes.{only-column, only-judge, only-asks}
-use Rattle.panel.proofs.Effects.{ship-passed, ship-taken, load-passed, load-taken, column-answered, column-passed, column-by, column-taken, hold-passed, hold-taken, drop-passed, drop-taken, judge-same}
+use Rattle.panel.proofs.Effects.{column-answered, column-by}
+use Rattle.panel.proofs.Taken.{taken-exactly, records-are-stored}
 use Rattle.panel.proofs.Judging.{inside-ends, columns-ordered, hold-sound, holds-sound, ready-around, ready-judged}
 
 -- ---- W after a hold is put in a place
@@ -68,37 +68,24 @@ weight-empty = nothing-held (empty .holds) refl
 
 -- ---- W after each line that is taken
 module _ (c : Condition) (line : List ℕ) (lent : ℕ) (long : length (c .holds) ≡ 16) (zero : stepOf c line lent .code ≡ 0) where
-  abbrev hold : Hold
-  hold = request line .hold
-
-  abbrev column : Column
-  column = request line .column
-
-  module _ (k : Kind) (e : request line .kind ≡ k) where
-    done : stepOf c line lent ≡ outcomeBy c k hold column
-    done = taken-as c line lent k e zero
-
-    coded : outcomeBy c k hold column .code ≡ 0
-    coded = ap (λ (o : Outcome). o .code) (sym done) ∙ zero
-
-    weighs : weight (stepOf c line lent .after) ≡ weight (outcomeBy c k hold column .after)
-    weighs = ap (λ (o : Outcome). weight (o .after)) done
+  -- it passed the tests of what it asks for
+  asked-by : (k : Kind) → request line .kind ≡ k → Asks line lent k
+  asked-by k e = taken-asks c line lent k e zero
 
   follows : WeightFollows c line lent
   follows =
+      let t = taken-exactly c line lent in
+      let s = records-are-stored c line lent zero in
       record {
-        hold = λ n e.
-            let p = hold-passed c n hold (coded (HoldLine n) e) in
-            rw (weighs (HoldLine n) e, hold-taken c n hold p) (weight-put c n hold long (p .place));
+        hold = λ n e. rw (s .hold n e) (weight-put c n (request line .hold) long (t .hold n (asked-by (HoldLine n) e) .0 zero .0));
         drop = λ n e.
-            let p = drop-passed c n (coded (DropLine n) e) in
-            rw (weighs (DropLine n) e, drop-taken c n (p .0) (p .1))
-            (omega (arith, weight-put c n noHold long (p .0), nothing-weighs noHold refl));
-        clear = λ e. weighs ClearLine e ∙ weight-empty;
-        ship = λ s e. weighs (ShipLine s) e ∙ rw (ship-taken c s (ship-passed c s (coded (ShipLine s) e)));
-        load = λ l e. weighs (LoadLine l) e ∙ rw (load-taken c l (load-passed c l (coded (LoadLine l) e)));
-        column = λ e. weighs ColumnLine e ∙ rw (column-taken c column (column-passed c column (coded ColumnLine e)));
-        judge = λ e. weighs JudgeLine e ∙ ap weight (judge-same c (judgedOf c));
+            rw (s .drop n e)
+            (omega (arith, weight-put c n noHold long (t .drop n (asked-by (DropLine n) e) .0 zero .0), nothing-weighs noHold refl));
+        clear = λ e. ap (λ (o : Outcome). weight (o .after)) (taken-as c line lent ClearLine e zero) ∙ weight-empty;
+        ship = λ x e. ap weight (s .ship x e);
+        load = λ l e. ap weight (s .load l e);
+        column = λ e. ap weight (s .column e);
+        judge = λ e. ap weight (s .judge e);
       }
 
 pub weight-is-total : WeightIsTotal
@@ -118,7 +105,7 @@ module _ (c : Condition) (line : List ℕ) (lent : ℕ) where
 
   full-from : Asks line lent ColumnLine × (columnLimits sent ≡ true) × (20 ≤ length (held (c .columns))) → stepOf c line lent .code ≡ 23
   full-from (a, l, h) =
-      ap (λ (o : Outcome). o .code) (asked c line lent ColumnLine a)
+      code-of c line lent ColumnLine a
       ∙ rw (column-by c sent Full (sym (answer-full (held (c .columns)) sent l h)))
 
 pub twenty-three-exactly : TwentyThreeExactly
@@ -176,8 +163,9 @@ module _ (c : Condition) (w : Within c) where
 pub thirty-four-exactly : ThirtyFourExactly
 unfolding isOneOf
 thirty-four-exactly c line lent w = (
-  λ e. let a = only-asks c line lent 34 refl JudgeLine only-judge e in let t = too-heavy c w (a .1) in (a .0, t .0, t .1),
-  λ (a, r, h). ap (λ (o : Outcome). o .code) (asked c line lent JudgeLine a) ∙ rw (heavy-refused c w r h),
+  λ e. let a = only-asks c line lent 34 refl JudgeLine only-judge e in
+      let t = too-heavy c w (a .1) in (a .0, t .0, t .1),
+  λ (a, r, h). code-of c line lent JudgeLine a ∙ rw (heavy-refused c w r h),
 )
 
 -- ---- every part of a trimmed or voided hold that is held

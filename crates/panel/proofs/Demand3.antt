@@ -22,13 +22,10 @@ use Rattle.panel.specs.declared.Judged.the-variants.{Given}
 use Rattle.panel.specs.Judge.{weight, basisAt, judgedAt, judgedOf}
 use Rattle.panel.specs.Step.{verdictGiven}
 use Rattle.panel.specs.Within.{Within, Complete}
-use Rattle.panel.specs.Demands.{Ready, VerdictsHold}
+use Rattle.panel.specs.Demands.{VerdictsHold}
 use Rattle.panel.proofs.Asked.{asked}
 use Rattle.panel.proofs.Sequence.{held-length}
 use Rattle.panel.proofs.Judging.{places-fitting, columns-ordered, holds-sound, load-within, ready-around, ready-judged}
-
-ready : (c : Condition) → Complete c → Ready c
-ready c m = record { ship = m .ship; columns = m .columns; load = m .load; fromFirst = m .fromFirst; toLast = m .toLast }
 
 module _ (c : Condition) (w : Within c) (m : Complete c) where
   -- a column held has ten KN
@@ -45,7 +42,7 @@ module _ (c : Condition) (w : Within c) (m : Complete c) where
         high = rw add-one at (s .highLimits);
         tenLow = ten i (omega (arith, s .place));
         tenHigh = rw add-one at (ten (i + 1) (s .place));
-        load = load-within c w (m .load);
+        load = load-within c w (m .ready .load);
         apart = rw add-one at (s .apart);
         from = s .low;
         to = rw add-one at (s .high);
@@ -54,11 +51,11 @@ module _ (c : Condition) (w : Within c) (m : Complete c) where
 
   given : (i : ℕ) → columnsAround (c .load .d) (held (c .columns)) ≡ At i → judgedOf c ≡ Given (verdictOf (c .ship) (basisAt c i))
   given i e =
-      ready-judged c w (ready c m) ∙ ap (judgedAt c) e ∙ rw (holds-sound c w, le-leb (weight c) 1000000000 (m .weights))
+      ready-judged c w (m .ready) ∙ ap (judgedAt c) e ∙ rw (holds-sound c w, le-leb (weight c) 1000000000 (m .weights))
 
 pub verdicts-hold : VerdictsHold
 verdicts-hold c line lent w m a =
-    let p = ready-around c w (ready c m) in
+    let p = ready-around c w (m .ready) in
     record {
       place = p .0;
       around = p .1;

@@ -127,14 +127,28 @@ module _ (c : Condition) where
   after : {a b : Change} → a ≡ b → b .after ≡ a .after
   after e = ap (λ (t : Change). t .after) (sym e)
 
+  pub ship-effect : (s : Ship) → shipOperation c s .code ≡ 0 → withShip c s ≡ shipOperation c s .after
+  ship-effect s e = after (ship-taken s (ship-passed s e))
+
+  pub load-effect : (l : Load) → loadOperation c l .code ≡ 0 → withLoad c l ≡ loadOperation c l .after
+  load-effect l e = after (load-taken l (load-passed l e))
+
+  pub column-effect : (k : Column) → columnOperation c k .code ≡ 0 → withColumns c (withColumn (c .columns) k) ≡ columnOperation c k .after
+  column-effect k e = after (column-taken k (column-passed k e))
+
+  pub hold-effect : (n : ℕ) (h : Hold) → holdOperation c n h .code ≡ 0 → withHold c n h ≡ holdOperation c n h .after
+  hold-effect n h e = after (hold-taken n h (hold-passed n h e))
+
+  pub drop-effect : (n : ℕ) → dropOperation c n .code ≡ 0 → withHold c n noHold ≡ dropOperation c n .after
+  drop-effect n e = let t = drop-passed n e in after (drop-taken n (t .0) (t .1))
+
   effect-by : (k : Kind) (h : Hold) (col : Column) → outcomeBy c k h col .code ≡ 0 → effectBy c k h col ≡ outcomeBy c k h col .after
-  effect-by (ShipLine s) h col e = after (ship-taken s (ship-passed s e))
+  effect-by (ShipLine s) h col e = ship-effect s e
   effect-by ColumnLine h col e =
-      let t = column-passed col e in
-      rw (lt-leb 20 _ (taken-below (held (c .columns)) col t)) (after (column-taken col t))
-  effect-by (LoadLine l) h col e = after (load-taken l (load-passed l e))
-  effect-by (HoldLine n) h col e = let t = hold-passed n h e in rw (t .place) (after (hold-taken n h t))
-  effect-by (DropLine n) h col e = let t = drop-passed n e in rw (t .0) (after (drop-taken n (t .0) (t .1)))
+      rw (lt-leb 20 _ (taken-below (held (c .columns)) col (column-passed col e))) (column-effect col e)
+  effect-by (LoadLine l) h col e = load-effect l e
+  effect-by (HoldLine n) h col e = rw (hold-passed n h e .place) (hold-effect n h e)
+  effect-by (DropLine n) h col e = rw (drop-passed n e .0) (drop-effect n e)
   effect-by JudgeLine h col e = sym (judge-same (judgedOf c))
   effect-by ClearLine h col e = refl
   effect-by NoShape h col e = refl

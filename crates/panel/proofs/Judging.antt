@@ -24,8 +24,7 @@ use Rattle.stability.proofs.Held.{lastD, below-outside, above-outside, between-
 use Rattle.panel.specs.declared.Condition.{Condition}
 use Rattle.panel.specs.Condition.{empty, isHeld}
 use Rattle.panel.specs.Judge.{soundPlace, judgedAt, judgedOf}
-use Rattle.panel.specs.Within.{Within}
-use Rattle.panel.specs.Demands.{Ready}
+use Rattle.panel.specs.Within.{Within, Ready}
 use Rattle.panel.proofs.Effects.{HoldPassed, ship-passed, load-passed, hold-passed}
 use Rattle.panel.proofs.Sequence.{Fitting, taken-order}
 

@@ -7,10 +7,13 @@ pub mod Demand2
 pub mod Demand3
 pub mod Demands
 pub mod Effects
+pub mod Example
 pub mod Judging
 pub mod Reached
+pub mod Refusing
 pub mod Sequence
 pub mod Shown
+pub mod Taken
 pub mod Taking
 pub mod Weighing
 pub mod Answers

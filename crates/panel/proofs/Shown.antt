@@ -1,7 +1,10 @@
--- The upper angle of a verdict that judge gives is at most 40 degrees, so that its reply fits.
-use mathlib.Core.Path.{_≡_, subst}
+-- Judge's answer is a refusal with 30 to 34 or the verdict between two neighbouring columns; the upper angle of a verdict is at most 40
+-- degrees, so that its reply fits.
+use mathlib.Core.Path.{_≡_, refl}
 use mathlib.Core.Bool.{Bool, true, false, cond, not, _&&_}
+use mathlib.Core.List.{List, [], _∷_}
 use Prim.Native.Nat.{ℕ, _≤_}
+use native.Mathlib.Omega.{arith}
 use lib.Dec.{leb}
 use lib.ListN.{length}
 use Rattle.whole.specs.Lists.{all}
@@ -18,37 +21,32 @@ use Rattle.panel.specs.declared.Condition.{Condition}
 use Rattle.panel.specs.declared.Judged.{Judged}
 use Rattle.panel.specs.declared.Judged.the-variants.{Refused, Given}
 use Rattle.panel.specs.Judge.{greatestWeight, soundPlace, weight, basisAt, judgedAt, judgedOf}
+use Rattle.panel.specs.Demands.{isOneOf}
 
-unfoldable Shown : Judged → Type 0
-Shown (Refused n) = Unit {0}
-Shown (Given v) = v .upper ≤ 4000
+-- judge's refusals
+abbrev pub refusals : List ℕ
+refusals = 30 ∷ 31 ∷ 32 ∷ 33 ∷ 34 ∷ []
 
-refusal-shown : (n : ℕ) → Shown (Refused n)
-unfolding Shown
-refusal-shown n = tt
+-- what every refusal and every verdict has, judge's answer has
+module _ (c : Condition) (P : Judged → Type 0) (refusal : (n : ℕ) → isOneOf refusals n ≡ true → P (Refused n)) (given : (i : ℕ) → P (Given (verdictOf (c .ship) (basisAt c i)))) where
+  by-test : (x : Bool) {a b : Judged} → P a → P b → P (cond x a b)
+  by-test true p q = p
+  by-test false p q = q
 
-shown-if : (b : Bool) (x y : Judged) → Shown x → Shown y → Shown (cond b x y)
-shown-if true x y p q = p
-shown-if false x y p q = q
+  by-around : (a : Around) → P (judgedAt c a)
+  unfolding isOneOf
+  by-around Outside = refusal 33 refl
+  by-around (At i) = by-test (all soundPlace (c .holds) && leb (weight c) greatestWeight) (given i) (refusal 34 refl)
 
-given-shown : (c : Condition) (i : ℕ) → Shown (Given (verdictOf (c .ship) (basisAt c i)))
-unfolding Shown
-given-shown c i = upper-le (c .ship) (basisAt c i)
-
-at-shown : (c : Condition) (a : Around) → Shown (judgedAt c a)
-at-shown c Outside = refusal-shown 33
-at-shown c (At i) = shown-if (all soundPlace (c .holds) && leb (weight c) greatestWeight) _ _ (given-shown c i) (refusal-shown 34)
-
-shown : (c : Condition) → Shown (judgedOf c)
-unfolding judgedOf
-shown c =
-    shown-if (not (c .shipped && shipLimits (c .ship))) _ _ (refusal-shown 30)
-    (shown-if (not (leb 2 (length (held (c .columns))) && inOrder (held (c .columns)))) _ _ (refusal-shown 31)
-    (shown-if (not (c .loaded && loadLimits (c .load))) _ _ (refusal-shown 32) (at-shown c (columnsAround (c .load .d) (held (c .columns))))))
-
-open-shown : (v : Verdict) → Shown (Given v) → v .upper ≤ 4000
-unfolding Shown
-open-shown v p = p
+  pub judged-by : P (judgedOf c)
+  unfolding judgedOf isOneOf
+  judged-by =
+      by-test (not (c .shipped && shipLimits (c .ship))) (refusal 30 refl)
+      (by-test (not (leb 2 (length (held (c .columns))) && inOrder (held (c .columns)))) (refusal 31 refl)
+      (by-test (not (c .loaded && loadLimits (c .load))) (refusal 32 refl) (by-around (columnsAround (c .load .d) (held (c .columns))))))
 
 pub upper-shown : (c : Condition) (v : Verdict) → judgedOf c ≡ Given v → v .upper ≤ 4000
-upper-shown c v e = open-shown v (subst Shown e (shown c))
+upper-shown c =
+    judged-by c (λ (j : Judged). (v : Verdict) → j ≡ Given v → v .upper ≤ 4000)
+    (λ n l v e. let z : _≡_ {A = ℕ} 0 1 = cc in absurd (omega arith))
+    (λ i v e. let s : v ≡ verdictOf (c .ship) (basisAt c i) = cc in rw s (upper-le (c .ship) (basisAt c i)))

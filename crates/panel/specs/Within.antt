@@ -32,12 +32,16 @@ pub record Within (c : Condition) : Type 0 where
   pub columns : ColumnsTaken empty (held (c .columns))
   pub holds : (n : ℕ) → n < 16 → isHeld (getD (c .holds) n noHold) ≡ true → holdOperation empty (n + 1) (getD (c .holds) n noHold) .code ≡ 0
 
--- none of 30 to 34 applies, each said by its own words: a ship; two columns; a load; D neither below the first nor above the last
--- column; weight moments together at most 1,000,000,000
-pub record Complete (c : Condition) : Type 0 where
+-- none of 30 to 33 applies, each said by its own words: a ship; two columns; a load; D neither below the first nor above the last
+-- column
+pub record Ready (c : Condition) : Type 0 where
   pub ship : c .shipped ≡ true
   pub columns : 2 ≤ length (held (c .columns))
   pub load : c .loaded ≡ true
   pub fromFirst : getD (held (c .columns)) 0 noColumn .d ≤ c .load .d
   pub toLast : c .load .d ≤ getD (held (c .columns)) (length (held (c .columns)) - 1) noColumn .d
+
+-- and 34 does not either: weight moments together at most 1,000,000,000
+pub record Complete (c : Condition) : Type 0 where
+  pub ready : Ready c
   pub weights : weight c ≤ 1000000000
