@@ -27,7 +27,8 @@ below-first x h = simp (lt-ltb x 500 h)
 
 pub above-last : (x : ℕ) → 8000 ≤ x → 500 * 590 + 40 * (x - 8000) ≡ standardDepth x
 unfolding standardDepth
-above-last x h = let k : 500 ≤ x = omega arith in simp (le-ltb x 500 k, le-leb 8000 x h)
+above-last x h =
+    let k : 500 ≤ x = omega arith in simp (le-ltb x 500 k, le-leb 8000 x h)
 
 module _ (x : ℕ) (low : 500 ≤ x) (high : x < 8000) where
   pub between : onLine 500 (x % 500) (getD depths (x / 500 - 1) 0) (getD depths (x / 500) 0) ≡ standardDepth x

@@ -19,8 +19,7 @@ use Rattle.limits.specs.Limits.{cellLimits, sectionLimits, slackLimits, partLim
 use Rattle.grain.specs.declared.Shifted.the-variants.{Moment, NoFit}
 use Rattle.grain.specs.Section.{Kept, keptFrom, keptOf, highMoment, sectionMoment}
 use Rattle.grain.specs.Slack.{slackMoment}
-use Rattle.grain.specs.Sum.{partSection, partMoment, percentage, holdMoment, weightMoment, holdFits, weighedOf, totalWeight}
-use Rattle.grain.specs.declared.Weighed.the-variants.{Weight, Limits, NoFit as NoFit′}
+use Rattle.grain.specs.Sum.{partSection, partMoment, percentage, holdMoment, weightMoment, totalWeight}
 use lib.Dec.{eqb}
 use borrow.Author.Tests.{eqb-true}
 use Rattle.grain.proofs.Sections.{areas-le, kept-sum}
@@ -144,13 +143,3 @@ nothing-held [] e = refl
 nothing-held (h ∷ hs) e =
     let t = and-true (eqb (h .head .count) 0) (all (λ h. eqb (h .head .count) 0) hs) e in
     omega (arith, nothing-weighs h (eqb-true (h .head .count) 0 (t .0)), nothing-held hs (t .1))
-
--- a weight moment that was answered is the hold's, and fits
-pub weighed-is : (h : Hold) (w : ℕ) → weighedOf h ≡ Weight w → (w ≡ weightMoment h) × (w ≤ 2 ^ 36)
-unfolding weighedOf
-weighed-is h w e = go (holdLimits h) (holdFits h) refl e
-  where
-    go : (a b : Bool) → holdLimits h ≡ a → cond a (cond b (Weight (weightMoment h)) NoFit′) Limits ≡ Weight w → (w ≡ weightMoment h) × (w ≤ 2 ^ 36)
-    go true true l q = let k : w ≡ weightMoment h = cc in (k, omega (arith, weight-le h (hold-within h l)))
-    go true false l q = let z : _≡_ {A = ℕ} 0 1 = cc in absurd (omega arith)
-    go false b l q = let z : _≡_ {A = ℕ} 0 1 = cc in absurd (omega arith)

@@ -3,8 +3,7 @@ use mathlib.Core.Bool.{Bool}
 use mathlib.Core.List.{List, [], _∷_}
 use Prim.Native.Nat.{ℕ}
 use lib.Dec.{T, eqb}
-use lib.ListN.{replicate}
-use Rattle.whole.specs.Root.{root, rootDigits}
+use Rattle.whole.specs.Root.{rootDigits}
 use Rattle.whole.specs.Lists.{all, sumOf}
 use Rattle.record.specs.declared.Cell.the-variants.{Void}
 use Rattle.record.specs.declared.Part.{Part}

@@ -1,12 +1,12 @@
 // Heeling moments of shifted grain: void depth, shifted voids, section, part, hold and weight moment.
 ghost use mathlib.Core.Path.{_≡_};
 ghost use mathlib.Core.Bool.{true};
-ghost use Prim.Native.Nat.{ℕ, _+_, _*_, _-_, _/_, _<_, _≤_, _^_, max};
+ghost use Prim.Native.Nat.{_+_, _*_, _-_, _/_, _<_, _≤_, _^_, max};
 ghost use Rattle.record.specs.Held.{cellsOf};
 ghost use Rattle.limits.specs.Limits.{sectionLimits, partLimits, holdLimits};
-ghost use Rattle.grain.specs.Depth.{standardDepth, wingDepth, cellDepth, cellArea};
+ghost use Rattle.grain.specs.Depth.{standardDepth, wingDepth, cellDepth};
 ghost use Rattle.grain.specs.Section.{mostHeld, kept, base, firstMoment};
-ghost use Rattle.grain.specs.Walk.{Room, sizesOf, withKept, innerCell, momentOf, lastCell, lastAnswer, sectionAnswer, partSectionAnswer, partAnswer, partsAnswer};
+ghost use Rattle.grain.specs.Walk.{Room, sizesOf, withKept, innerCell, lastCell, lastAnswer, sectionAnswer, partSectionAnswer, partAnswer, partsAnswer};
 ghost use Rattle.grain.specs.Slack.{slackMoment};
 ghost use Rattle.grain.specs.Sum.{percentage, weighedOf};
 use record::Cell;
@@ -301,7 +301,7 @@ fn percentage_of(mode: Mode) -> u64
 pub fn weigh(h: Hold) -> Weighed
     ensures { λ r. ⌜ r ≡ weighedOf h ⌝ }
 {
-    if !limits::hold_limits(h) {
+    if !hold_limits::hold_limits(h) {
         return Weighed::Limits;
     }
     let Shifted::Moment(sum) = parts_moment(h) else {

@@ -15,7 +15,7 @@ use Rattle.text.specs.Token.{tokens}
 use Rattle.text.specs.Line.{readingOf, readingCode}
 use Rattle.request.specs.declared.Kind.the-variants.{NoShape}
 use Rattle.request.specs.Shape.{plain}
-use Rattle.panel.specs.declared.Condition.{Condition}
+use Rattle.condition.specs.declared.Condition.{Condition}
 use Rattle.panel.specs.Operations.{Change, refusedWith}
 use Rattle.panel.specs.declared.Heard.{Heard}
 use Rattle.panel.specs.Step.{Outcome, answered, outcomeOf, outcomeAfter, heardBy, heardOf, heardOutcome, effectOf, stepOf}

@@ -10,7 +10,7 @@ use Rattle.text.specs.declared.Reading.{Reading}
 use Rattle.text.specs.declared.Reading.the-variants.{Sound, TooLong, BadByte, NotOneForm, BadNumber}
 use Rattle.text.specs.Line.{readingOf}
 use Rattle.request.specs.declared.Kind.{Kind}
-use Rattle.panel.specs.declared.Condition.{Condition}
+use Rattle.condition.specs.declared.Condition.{Condition}
 use Rattle.panel.specs.Step.{Outcome, outcomeBy, outcomeOf, outcomeAfter, stepOf}
 use Rattle.panel.specs.Demands.{request, Asks, isOneOf}
 

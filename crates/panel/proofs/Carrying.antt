@@ -17,7 +17,7 @@ use Rattle.request.specs.Shape.{requestOf}
 use Rattle.request.specs.Carried.{carriedShip, carriedLoad, carriedColumn, carriedHold, carriedKind, carriedRequest}
 use Rattle.request.proofs.Kept.{same-ship, same-load, same-column, same-hold, kept-ship, kept-load, kept-column}
 use Rattle.request.proofs.Tidy.{kept-hold}
-use Rattle.panel.specs.declared.Condition.{Condition}
+use Rattle.condition.specs.declared.Condition.{Condition}
 use Rattle.panel.specs.Operations.{shipOperation, loadOperation, columnOperation, holdOperation}
 use Rattle.panel.specs.Step.{outcomeBy, outcomeOf}
 

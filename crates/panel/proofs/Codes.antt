@@ -22,10 +22,10 @@ use Rattle.stability.specs.declared.Verdict.{Verdict}
 use Rattle.stability.specs.Verdict.{judgementCode, verdictOf}
 use Rattle.request.specs.declared.Kind.{Kind}
 use Rattle.request.specs.declared.Kind.the-variants.{ShipLine, ColumnLine, LoadLine, HoldLine, DropLine, JudgeLine, ClearLine, NoShape}
-use Rattle.panel.specs.declared.Condition.{Condition}
+use Rattle.condition.specs.declared.Condition.{Condition}
 use Rattle.panel.specs.declared.Judged.{Judged}
 use Rattle.panel.specs.declared.Judged.the-variants.{Refused, Given}
-use Rattle.panel.specs.Condition.{holdAt, isHeld}
+use Rattle.condition.specs.Condition.{holdAt, isHeld}
 use Rattle.panel.specs.Operations.{taken, shipOperation, loadOperation, columnChange, columnOperation, holdOperation, dropOperation}
 use Rattle.panel.specs.Judge.{basisAt}
 use Rattle.panel.specs.Step.{Outcome, answered, verdictGiven, outcomeBy, stepOf}

@@ -10,8 +10,8 @@ use Rattle.text.specs.declared.Reading.the-variants.{Sound, TooLong, BadByte, N
 use Rattle.text.specs.Line.{readingOf}
 use Rattle.request.specs.declared.Kind.{Kind}
 use Rattle.request.specs.declared.Kind.the-variants.{ShipLine, ColumnLine, LoadLine, HoldLine, DropLine, JudgeLine, ClearLine, NoShape}
-use Rattle.panel.specs.declared.Condition.{Condition}
-use Rattle.panel.specs.Condition.{empty}
+use Rattle.condition.specs.declared.Condition.{Condition}
+use Rattle.condition.specs.Condition.{empty}
 use Rattle.panel.specs.Step.{Outcome, outcomeOf, outcomeAfter, stepOf, Sent, conditionAfter, outcomes}
 use Rattle.panel.specs.Demands.{request, printed, isOneOf, CodesArePrinted, RefusalsChangeNothing, ClearStartsAnew}
 use Rattle.panel.proofs.Asked.{taken-as}

@@ -26,19 +26,19 @@ use Rattle.grain.specs.Sum.{weightMoment}
 use Rattle.grain.proofs.Walks.{part-within, cells-section}
 use Rattle.grain.proofs.Weights.{total-changed, nothing-weighs, nothing-held, hold-within}
 use Rattle.grain.proofs.Accuracy.{section-accuracy}
-use Rattle.stability.specs.declared.Around.{Around}
-use Rattle.stability.specs.declared.Around.the-variants.{At, Outside}
+use Rattle.columns.specs.declared.Around.{Around}
+use Rattle.columns.specs.declared.Around.the-variants.{At, Outside}
 use Rattle.stability.specs.declared.Judgement.{Judgement}
 use Rattle.stability.specs.declared.Judgement.the-variants.{Passed, ShortOfGm, ShortAtHeel, ShortBeyond, ShortOfArea}
 use Rattle.stability.specs.declared.Verdict.{Verdict}
-use Rattle.stability.specs.Arms.{columnsAround}
+use Rattle.columns.specs.Search.{columnsAround}
 use Rattle.stability.specs.Verdict.{judgementCode, verdictOf}
 use Rattle.request.specs.declared.Kind.{Kind}
 use Rattle.request.specs.declared.Kind.the-variants.{ColumnLine, HoldLine, DropLine, JudgeLine, ClearLine}
-use Rattle.panel.specs.declared.Condition.{Condition}
+use Rattle.condition.specs.declared.Condition.{Condition}
 use Rattle.panel.specs.declared.Judged.{Judged}
 use Rattle.panel.specs.declared.Judged.the-variants.{Refused, Given}
-use Rattle.panel.specs.Condition.{empty, withHold, holdAt, isHeld}
+use Rattle.condition.specs.Condition.{empty, withHold, holdAt, isHeld}
 use Rattle.panel.specs.Judge.{soundPlace, weight, basisAt, judgedAt, judgedOf}
 use Rattle.panel.specs.Step.{Outcome, verdictGiven, stepOf}
 use Rattle.panel.specs.Within.{Within, Ready}

@@ -10,14 +10,14 @@ use borrow.Author.Tests.{le-leb}
 use Rattle.record.specs.declared.Column.{Column}
 use Rattle.record.specs.Held.{held}
 use Rattle.record.specs.Filler.{noColumn}
-use Rattle.stability.specs.declared.Around.the-variants.{At}
-use Rattle.stability.specs.Arms.{columnsAround}
+use Rattle.columns.specs.declared.Around.the-variants.{At}
+use Rattle.columns.specs.Search.{columnsAround}
 use Rattle.stability.specs.Verdict.{verdictOf}
 use Rattle.stability.specs.Demand.{Judgeable}
 use Rattle.stability.proofs.Held.{around-at}
 use Rattle.stability.proofs.Demand3.{demand3, margins}
 use Rattle.request.specs.declared.Kind.the-variants.{JudgeLine}
-use Rattle.panel.specs.declared.Condition.{Condition}
+use Rattle.condition.specs.declared.Condition.{Condition}
 use Rattle.panel.specs.declared.Judged.the-variants.{Given}
 use Rattle.panel.specs.Judge.{weight, basisAt, judgedAt, judgedOf}
 use Rattle.panel.specs.Step.{verdictGiven}

@@ -17,10 +17,10 @@ use Rattle.limits.specs.Limits.{shipLimits, loadLimits, holdLimits, placeLimits
 use Rattle.record.specs.Held.{held}
 use Rattle.columns.specs.Columns.{columnAnswer, addedCode, withColumn}
 use Rattle.grain.specs.Sum.{holdFits}
-use Rattle.panel.specs.declared.Condition.{Condition}
+use Rattle.condition.specs.declared.Condition.{Condition}
 use Rattle.panel.specs.declared.Judged.{Judged}
 use Rattle.panel.specs.declared.Judged.the-variants.{Refused, Given}
-use Rattle.panel.specs.Condition.{withShip, withLoad, withColumns, withHold, holdAt, isHeld}
+use Rattle.condition.specs.Condition.{withShip, withLoad, withColumns, withHold, holdAt, isHeld}
 use Rattle.panel.specs.Operations.{Change, taken, refusedWith, shipOperation, loadOperation, columnChange, columnOperation, holdOperation, dropOperation}
 use Rattle.request.specs.declared.Kind.{Kind}
 use Rattle.request.specs.declared.Kind.the-variants.{ShipLine, ColumnLine, LoadLine, HoldLine, DropLine, JudgeLine, ClearLine, NoShape}

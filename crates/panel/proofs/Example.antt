@@ -11,7 +11,8 @@ use Rattle.grain.specs.Slack.{slackMoment}
 use Rattle.grain.specs.Sum.{partMoment, holdMoment, weightMoment, holdFits, totalWeight}
 use Rattle.stability.specs.Angles.{angle, sine}
 use Rattle.stability.specs.Area.{areaOver}
-use Rattle.stability.specs.Arms.{columnsAround, gm, knArm, kgArm, rightingArm, heelingArm, diff}
+use Rattle.stability.specs.Arms.{gm, knArm, kgArm, rightingArm, heelingArm, diff}
+use Rattle.columns.specs.Search.{columnsAround}
 use Rattle.stability.specs.Verdict.{anglesBelow, diffAt, peak, failsAmong, judgedBy, verdictOf}
 use Rattle.text.specs.Token.{tokens, same, valueFrom, numberOf}
 use Rattle.text.specs.Line.{walked, readingOf}

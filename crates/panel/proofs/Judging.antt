@@ -17,12 +17,12 @@ use Rattle.limits.specs.Limits.{loadLimits, holdLimits}
 use Rattle.record.specs.Held.{held}
 use Rattle.columns.specs.Columns.{inOrder}
 use Rattle.grain.specs.Sum.{holdFits}
-use Rattle.stability.specs.declared.Around.{Around}
-use Rattle.stability.specs.declared.Around.the-variants.{At, Outside}
-use Rattle.stability.specs.Arms.{columnsAround}
+use Rattle.columns.specs.declared.Around.{Around}
+use Rattle.columns.specs.declared.Around.the-variants.{At, Outside}
+use Rattle.columns.specs.Search.{columnsAround}
 use Rattle.stability.proofs.Held.{lastD, below-outside, above-outside, between-found}
-use Rattle.panel.specs.declared.Condition.{Condition}
-use Rattle.panel.specs.Condition.{empty, isHeld}
+use Rattle.condition.specs.declared.Condition.{Condition}
+use Rattle.condition.specs.Condition.{empty, isHeld}
 use Rattle.panel.specs.Judge.{soundPlace, judgedAt, judgedOf}
 use Rattle.panel.specs.Within.{Within, Ready}
 use Rattle.panel.proofs.Effects.{HoldPassed, ship-passed, load-passed, hold-passed}

@@ -22,8 +22,8 @@ use Rattle.text.specs.Token.{tokens}
 use Rattle.request.specs.declared.Kind.{Kind}
 use Rattle.request.specs.declared.Kind.the-variants.{ShipLine, ColumnLine, LoadLine, HoldLine, DropLine, JudgeLine, ClearLine, NoShape}
 use Rattle.request.proofs.Lengths.{hold-places, cell-places, column-values}
-use Rattle.panel.specs.declared.Condition.{Condition}
-use Rattle.panel.specs.Condition.{empty, isHeld}
+use Rattle.condition.specs.declared.Condition.{Condition}
+use Rattle.condition.specs.Condition.{empty, isHeld}
 use Rattle.panel.specs.Judge.{judgedOf}
 use Rattle.panel.specs.Step.{outcomeBy, stepOf, Sent, conditionAfter}
 use Rattle.panel.specs.Within.{Within, ColumnsTaken}

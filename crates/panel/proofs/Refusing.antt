@@ -12,17 +12,17 @@ use Rattle.record.specs.Held.{held}
 use Rattle.record.specs.Filler.{noColumn}
 use Rattle.columns.specs.Columns.{inOrder}
 use Rattle.columns.proofs.Adding.{answer-limits, answer-above}
-use Rattle.stability.specs.declared.Around.the-variants.{Outside}
-use Rattle.stability.specs.Arms.{columnsAround}
+use Rattle.columns.specs.declared.Around.the-variants.{Outside}
+use Rattle.columns.specs.Search.{columnsAround}
 use Rattle.stability.proofs.Held.{lastD, below-outside, above-outside}
 use Rattle.text.specs.declared.Reading.{Reading}
 use Rattle.text.specs.declared.Reading.the-variants.{Sound, TooLong, BadByte, NotOneForm, BadNumber}
 use Rattle.text.specs.Line.{readingOf, readingCode}
 use Rattle.request.specs.declared.Kind.the-variants.{ShipLine, ColumnLine, LoadLine, HoldLine, DropLine, JudgeLine}
-use Rattle.panel.specs.declared.Condition.{Condition}
+use Rattle.condition.specs.declared.Condition.{Condition}
 use Rattle.panel.specs.declared.Judged.{Judged}
 use Rattle.panel.specs.declared.Judged.the-variants.{Refused}
-use Rattle.panel.specs.Condition.{empty}
+use Rattle.condition.specs.Condition.{empty}
 use Rattle.panel.specs.Operations.{shipOperation, loadOperation, holdOperation, dropOperation}
 use Rattle.panel.specs.Judge.{judgedOf}
 use Rattle.panel.specs.Step.{verdictGiven, stepOf}

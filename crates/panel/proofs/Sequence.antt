@@ -15,8 +15,8 @@ use Rattle.columns.specs.declared.Added.the-variants.{Taken}
 use Rattle.limits.specs.Limits.{columnLimits}
 use Rattle.record.specs.Held.{held}
 use Rattle.columns.specs.Columns.{isAbove, columnAnswer, inOrder, withColumn}
-use Rattle.panel.specs.declared.Condition.{Condition}
-use Rattle.panel.specs.Condition.{withColumns}
+use Rattle.condition.specs.declared.Condition.{Condition}
+use Rattle.condition.specs.Condition.{withColumns}
 use Rattle.panel.specs.Operations.{columnOperation}
 use Rattle.panel.specs.Within.{ColumnsTaken}
 use Rattle.panel.proofs.Taking.{taken-is}

@@ -12,12 +12,12 @@ use Rattle.limits.specs.Limits.{shipLimits, loadLimits}
 use Rattle.record.specs.Held.{held}
 use Rattle.columns.specs.Columns.{inOrder}
 use Rattle.stability.specs.declared.Verdict.{Verdict}
-use Rattle.stability.specs.declared.Around.{Around}
-use Rattle.stability.specs.declared.Around.the-variants.{At, Outside}
-use Rattle.stability.specs.Arms.{columnsAround}
+use Rattle.columns.specs.declared.Around.{Around}
+use Rattle.columns.specs.declared.Around.the-variants.{At, Outside}
+use Rattle.columns.specs.Search.{columnsAround}
 use Rattle.stability.specs.Verdict.{verdictOf}
 use Rattle.stability.proofs.Covers.{upper-le}
-use Rattle.panel.specs.declared.Condition.{Condition}
+use Rattle.condition.specs.declared.Condition.{Condition}
 use Rattle.panel.specs.declared.Judged.{Judged}
 use Rattle.panel.specs.declared.Judged.the-variants.{Refused, Given}
 use Rattle.panel.specs.Judge.{greatestWeight, soundPlace, weight, basisAt, judgedAt, judgedOf}

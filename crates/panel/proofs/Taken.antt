@@ -22,9 +22,9 @@ use Rattle.text.specs.Line.{readingOf}
 use Rattle.request.specs.declared.Kind.{Kind}
 use Rattle.request.specs.declared.Kind.the-variants.{ShipLine, ColumnLine, LoadLine, HoldLine, DropLine, JudgeLine, ClearLine, NoShape}
 use Rattle.reply.specs.Replies.{answerReply}
-use Rattle.panel.specs.declared.Condition.{Condition}
+use Rattle.condition.specs.declared.Condition.{Condition}
 use Rattle.panel.specs.declared.Judged.{Judged}
-use Rattle.panel.specs.Condition.{withColumns}
+use Rattle.condition.specs.Condition.{withColumns}
 use Rattle.panel.specs.Operations.{Change}
 use Rattle.panel.specs.Judge.{basisAt, judgedOf}
 use Rattle.panel.specs.Step.{Outcome, verdictGiven, outcomeBy, stepOf}

@@ -17,7 +17,7 @@ use Rattle.grain.specs.Sum.{holdFits, weightMoment, totalWeight, weighedOf}
 use Rattle.grain.proofs.Weights.{nothing-weighs}
 use Rattle.panel.specs.declared.Weights.{Weights}
 use Rattle.panel.specs.declared.Weights.the-variants.{Together, TooMuch}
-use Rattle.panel.specs.Condition.{isHeld}
+use Rattle.condition.specs.Condition.{isHeld}
 use Rattle.panel.specs.Judge.{greatestWeight, soundPlace, placeWeight, weightsOf}
 
 -- ---- one place

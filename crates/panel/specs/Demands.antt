@@ -21,9 +21,9 @@ use Rattle.record.specs.Filler.{noColumn, noHold, noPart}
 use Rattle.grain.specs.Sum.{holdFits, weightMoment}
 use Rattle.grain.specs.Section.{keptOf}
 use Rattle.grain.specs.Exact.{Bases, SectionAccuracy}
-use Rattle.stability.specs.declared.Around.the-variants.{At}
+use Rattle.columns.specs.declared.Around.the-variants.{At}
 use Rattle.stability.specs.declared.Verdict.{Verdict}
-use Rattle.stability.specs.Arms.{columnsAround}
+use Rattle.columns.specs.Search.{columnsAround}
 use Rattle.stability.specs.Verdict.{verdictOf}
 use Rattle.stability.specs.Exact.{EveryAngle}
 use Rattle.stability.specs.Demand.{Demand3, Margins}
@@ -35,9 +35,9 @@ use Rattle.request.specs.declared.Kind.the-variants.{ShipLine, ColumnLine, Load
 use Rattle.request.specs.declared.Request.{Request}
 use Rattle.request.specs.Shape.{requestOf}
 use Rattle.reply.specs.Replies.{answerReply, refusalReply, verdictReply}
-use Rattle.panel.specs.declared.Condition.{Condition}
+use Rattle.condition.specs.declared.Condition.{Condition}
 use Rattle.panel.specs.declared.Judged.the-variants.{Given}
-use Rattle.panel.specs.Condition.{empty, withShip, withLoad, withColumns, withHold, holdAt, isHeld}
+use Rattle.condition.specs.Condition.{empty, withShip, withLoad, withColumns, withHold, holdAt, isHeld}
 use Rattle.panel.specs.Judge.{weight, basisAt}
 use Rattle.panel.specs.Step.{Outcome, verdictGiven, stepOf, Sent, conditionAfter, outcomes}
 use Rattle.panel.specs.Within.{Within, Ready, Complete}

@@ -15,16 +15,16 @@ use Rattle.record.specs.Filler.{noColumn}
 use Rattle.columns.specs.Columns.{inOrder}
 use Rattle.grain.specs.Sum.{holdFits, weightMoment, totalWeight}
 use Rattle.stability.specs.declared.Basis.{Basis}
-use Rattle.stability.specs.declared.Around.{Around}
-use Rattle.stability.specs.declared.Around.the-variants.{At, Outside}
-use Rattle.stability.specs.Arms.{columnsAround}
+use Rattle.columns.specs.declared.Around.{Around}
+use Rattle.columns.specs.declared.Around.the-variants.{At, Outside}
+use Rattle.columns.specs.Search.{columnsAround}
 use Rattle.stability.specs.Verdict.{verdictOf}
-use Rattle.panel.specs.declared.Condition.{Condition}
+use Rattle.condition.specs.declared.Condition.{Condition}
 use Rattle.panel.specs.declared.Weights.{Weights}
 use Rattle.panel.specs.declared.Weights.the-variants.{Together, TooMuch}
 use Rattle.panel.specs.declared.Judged.{Judged}
 use Rattle.panel.specs.declared.Judged.the-variants.{Refused, Given}
-use Rattle.panel.specs.Condition.{isHeld}
+use Rattle.condition.specs.Condition.{isHeld}
 
 -- a place is empty, or its hold is within its limits and fits
 abbrev pub soundPlace : Hold → Bool

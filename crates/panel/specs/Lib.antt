@@ -1,4 +1,3 @@
-pub mod Condition
 pub mod Judge
 pub mod Operations
 pub mod Step

@@ -12,8 +12,8 @@ use Rattle.record.specs.Held.{held}
 use Rattle.columns.specs.Columns.{columnAnswer, addedCode, withColumn}
 use Rattle.record.specs.Filler.{noHold}
 use Rattle.grain.specs.Sum.{holdFits}
-use Rattle.panel.specs.declared.Condition.{Condition}
-use Rattle.panel.specs.Condition.{withShip, withLoad, withColumns, withHold, holdAt, isHeld}
+use Rattle.condition.specs.declared.Condition.{Condition}
+use Rattle.condition.specs.Condition.{withShip, withLoad, withColumns, withHold, holdAt, isHeld}
 
 -- an operation's code, and the condition after it
 pub record Change : Type 0 where

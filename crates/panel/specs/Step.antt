@@ -23,8 +23,8 @@ use Rattle.request.specs.Carried.{carriedRequest}
 use lib.ListN.{length}
 use Rattle.reply.specs.Written.{over}
 use Rattle.reply.specs.Replies.{answerReply, refusalReply, verdictReply}
-use Rattle.panel.specs.declared.Condition.{Condition}
-use Rattle.panel.specs.Condition.{empty, withShip, withLoad, withColumns, withHold}
+use Rattle.condition.specs.declared.Condition.{Condition}
+use Rattle.condition.specs.Condition.{empty, withShip, withLoad, withColumns, withHold}
 use Rattle.panel.specs.declared.Replied.{Replied}
 use Rattle.panel.specs.declared.Heard.{Heard}
 use Rattle.panel.specs.declared.Stepped.{Stepped}

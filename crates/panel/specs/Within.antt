@@ -8,8 +8,8 @@ use Rattle.record.specs.declared.Column.{Column}
 use Rattle.record.specs.declared.Part.{Part}
 use Rattle.record.specs.Held.{held}
 use Rattle.record.specs.Filler.{noColumn, noHold}
-use Rattle.panel.specs.declared.Condition.{Condition}
-use Rattle.panel.specs.Condition.{empty, isHeld}
+use Rattle.condition.specs.declared.Condition.{Condition}
+use Rattle.condition.specs.Condition.{empty, isHeld}
 use Rattle.panel.specs.Operations.{shipOperation, loadOperation, columnOperation, holdOperation}
 use Rattle.panel.specs.Judge.{weight}
 

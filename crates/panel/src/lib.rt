@@ -1,5 +1,7 @@
-// The condition that the panel keeps, each operation on it, and the step of one line.
+// Each operation on the condition, and the step of one line.
 use columns::Added;
+use columns::Around;
+use condition::Condition;
 use grain::Weighed;
 use record::Column;
 use record::Columns;
@@ -9,7 +11,6 @@ use record::Rule;
 use record::Ship;
 use request::Kind;
 use request::Request;
-use stability::Around;
 use stability::Basis;
 use stability::Judgement;
 use stability::Verdict;
@@ -25,22 +26,12 @@ ghost use Rattle.limits.specs.Limits.{placeLimits};
 ghost use Rattle.record.specs.Filler.{noHold};
 ghost use Rattle.stability.specs.Verdict.{judgementCode};
 ghost use Rattle.reply.specs.Replies.{answerReply};
-ghost use Rattle.panel.specs.Condition.{empty, isHeld, withShip, withLoad, withColumns, withHold};
+ghost use Rattle.condition.specs.Condition.{empty, isHeld, withShip, withLoad, withColumns, withHold};
 ghost use Rattle.grain.specs.Sum.{weighedCode};
 ghost use Rattle.text.specs.Line.{readingCode};
 ghost use Rattle.panel.specs.Operations.{shipOperation, loadOperation, columnOperation, holdOperation, dropOperation};
 ghost use Rattle.panel.specs.Step.{verdictGiven, outcomeOf, heardOf, heardOutcome, effectOf, stepOf, Replies, Steps};
 ghost use Rattle.panel.specs.Judge.{judgedOf, judgedAt, placeWeight, weightsOf, Between};
-
-// One loading condition of one ship. A place of `holds` with no parts holds no hold.
-pub struct Condition {
-    pub shipped: bool,
-    pub ship: Ship,
-    pub loaded: bool,
-    pub load: Load,
-    pub columns: Columns,
-    pub holds: [Hold; 16],
-}
 
 // The weight moments together, or that judge refuses them.
 pub enum Weights {
@@ -71,29 +62,6 @@ pub struct Stepped {
     pub code: u8,
     pub len: usize,
     pub after: Condition,
-}
-
-// ---- the condition
-
-// The condition at the start, and after a clear.
-pub fn empty_condition() -> Condition
-    ensures { λ r. ⌜ r ≡ empty ⌝ }
-{
-    let ship = Ship {
-        rule: Rule::New(0),
-        flood: 0,
-    };
-    let load = Load { d: 0, kg: 0, fs: 0 };
-    let h = record::no_hold();
-    let holds = [h; 16];
-    Condition {
-        shipped: false,
-        ship,
-        loaded: false,
-        load,
-        columns: record::no_columns(),
-        holds,
-    }
 }
 
 // Whether there is a hold n.
@@ -223,7 +191,7 @@ fn judge(c: Condition) -> Judged
     if !choice::both(c.loaded, limits::load_limits(load)) {
         return Judged::Refused(32);
     }
-    let around = stability::columns_around(columns, load.d);
+    let around = columns::columns_around(columns, load.d);
     let Around::At(i) = around else {
         return Judged::Refused(33);
     };
@@ -481,7 +449,7 @@ pub fn effect(c: Condition, r: Request) -> Condition
         Kind::HoldLine(n) => with_hold(c, n, h),
         Kind::DropLine(n) => with_hold(c, n, record::no_hold()),
         Kind::JudgeLine => c,
-        Kind::ClearLine => empty_condition(),
+        Kind::ClearLine => condition::empty_condition(),
         Kind::NoShape => c,
     }
 }

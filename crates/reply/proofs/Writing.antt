@@ -15,7 +15,7 @@ use lib.IntN.{ℤ, pos, negsuc}
 use mir.Syntax.{w64}
 use mir.Val.{SFits, toZ, ofZ}
 use mir.Facts.{toZ-ofZ}
-use Rattle.whole.specs.Sign.{plus, minus}
+use Rattle.sign.specs.Sign.{plus, minus}
 use Rattle.reply.specs.Written.{over, into, digits, decimal, figure, twoDigits}
 use Rattle.whole.specs.Bytes.{bytes}
 use Rattle.reply.specs.Replies.{tail, codedReply, answerReply, refusalReply, field, count, verdictReply}

@@ -73,11 +73,11 @@ fn append_figure(out: &mut [u8], at: usize, z: i64) -> usize
     requires { ⌜ at + length (figure z) ≤ length (now out) ⌝ }
     ensures { λ r. ⌜ (r ≡ at + length (figure z)) × (now (out .exit) ≡ into at (figure z) (now (out .entry))) ⌝ }
 {
-    if whole::is_below(z) {
+    if sign::is_below(z) {
         let a = append(out, at, b"-");
-        append_decimal(out, a, whole::below_zero(z))
+        append_decimal(out, a, sign::below_zero(z))
     } else {
-        append_decimal(out, at, whole::above_zero(z))
+        append_decimal(out, at, sign::above_zero(z))
     }
 }
 

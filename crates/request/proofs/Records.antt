@@ -91,9 +91,11 @@ bare-kept k ts e = by (close? ts)
 pub whole-end : {A : Type 0} (a other : A) (ts : List Token) → isEnd ts ≡ true → whole? (got a ts) other ≡ a
 unfolding isEnd
 whole-end a other [] e = refl
-whole-end a other (t ∷ ts) e = let z : _≡_ {A = ℕ} 0 1 = cc in absurd (omega arith)
+whole-end a other (t ∷ ts) e =
+    let z : _≡_ {A = ℕ} 0 1 = cc in absurd (omega arith)
 
 pub whole-more : {A : Type 0} (a other : A) (ts : List Token) → isEnd ts ≡ false → whole? (got a ts) other ≡ other
 unfolding isEnd
-whole-more a other [] e = let z : _≡_ {A = ℕ} 0 1 = cc in absurd (omega arith)
+whole-more a other [] e =
+    let z : _≡_ {A = ℕ} 0 1 = cc in absurd (omega arith)
 whole-more a other (t ∷ ts) e = refl

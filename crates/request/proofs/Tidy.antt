@@ -1,9 +1,9 @@
 -- What the grammar yields: a hold whose unused fields are 0 and whose unused places are fillers, so that it is carried as it is
--- within its limits; and its number of parts.
+-- within its limits.
 use mathlib.Core.Path.{_≡_, refl, sym, _∙_}
 use mathlib.Core.Bool.{Bool, true}
 use mathlib.Core.List.{List, [], _∷_, map, map-map, map-id}
-use Prim.Native.Nat.{ℕ, _-_, _≤_}
+use Prim.Native.Nat.{ℕ, _-_}
 use native.Mathlib.Omega.{arith}
 use lib.ListN.{length, take, replicate, length-map}
 use lib.Seq.{take-at}
@@ -77,24 +77,20 @@ hold-stays m factor ps each e =
     let parts = kept-padded carriedPart noPart refl 6 ps (kept-each (partLimits m) carriedPart ps each (t .1)) in
     rw (kept-within 5000 40000 factor (omega arith) (t .0), parts)
 
--- ---- a request: its hold is kept within its limits, and a hold line has one to six parts
-record Tidy (r : Request) : Type 0 where
-  kept : holdLimits (r .hold) ≡ true → carriedHold (r .hold) ≡ r .hold
-  counted : (n : ℕ) → r .kind ≡ HoldLine n → (1 ≤ r .hold .head .count) × (r .hold .head .count ≤ 6)
+-- ---- a request: its hold is kept within its limits
+abbrev Tidy : Request → Type 0
+Tidy r = holdLimits (r .hold) ≡ true → carriedHold (r .hold) ≡ r .hold
 
 hold-tidy : (n : ℕ) (m : Mode) (factor : ℕ) (ps : List Part) → Several (KeptPart m) 6 ps → Tidy (holdRequest n (holdRecord m factor ps))
-hold-tidy n m factor ps s = record { kept = hold-stays m factor ps (s .every); counted = λ k e. (s .some, s .most) }
+hold-tidy n m factor ps s = hold-stays m factor ps (s .every)
 
 -- any other line has no hold
 unheld : (k : Kind) (c : Column) → ((n : ℕ) → k ≡ HoldLine n → _≡_ {A = ℕ} 0 1) → length (c .kn) ≡ 10 → Tidy (record { kind = k; hold = noHold; column = c })
-unheld k c other ten = record { kept = λ e. refl; counted = λ n e. let z = other n e in absurd (omega arith) }
+unheld k c other ten e = refl
 
 request-tidy : (ts : List Token) → Tidy (requestOf ts)
 request-tidy = request-has Tidy KeptPart part-tidy hold-tidy unheld
 
--- a hold that is read is carried as it is within its limits; a hold line has one to six parts
+-- a hold that is read is carried as it is within its limits
 pub kept-hold : (ts : List Token) → holdLimits (requestOf ts .hold) ≡ true → carriedHold (requestOf ts .hold) ≡ requestOf ts .hold
-kept-hold ts = request-tidy ts .kept
-
-pub hold-counts : (ts : List Token) (n : ℕ) → requestOf ts .kind ≡ HoldLine n → (1 ≤ requestOf ts .hold .head .count) × (requestOf ts .hold .head .count ≤ 6)
-hold-counts ts = request-tidy ts .counted
+kept-hold = request-tidy

@@ -173,11 +173,13 @@ pub record Filling {B : Type 0} (most : ℕ) (d : B) (i : ℕ) (xs : List B) : T
   pub left : drop i xs ≡ replicate (most - i) d
 
 pub filling-none : {B : Type 0} (most : ℕ) (d : B) → Filling most d 0 (replicate most d)
-filling-none most d = let e : most - 0 ≡ most = omega arith in record { upto = omega arith; long = length-replicate most d; left = rw e }
+filling-none most d =
+    let e : most - 0 ≡ most = omega arith in record { upto = omega arith; long = length-replicate most d; left = rw e }
 
 drop-one : {B : Type 0} (d : B) (n : ℕ) → drop 1 (replicate n d) ≡ replicate (n - 1) d
 drop-one d zero = refl
-drop-one d (suc n) = let e : suc n - 1 ≡ n = omega arith in rw e
+drop-one d (suc n) =
+    let e : suc n - 1 ≡ n = omega arith in rw e
 
 pub filling-more : {B : Type 0} (most : ℕ) (d : B) (i : ℕ) (xs : List B) (x : B) → Filling most d i xs → i < most → Filling most d (i + 1) (set xs i x)
 filling-more most d i xs x f h =

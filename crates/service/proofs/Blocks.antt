@@ -9,8 +9,8 @@ use lib.Seq.{take-all, take-nil}
 use borrow.Author.Tests.{le-leb}
 use lib.Dec.{eqb}
 use Rattle.text.proofs.Order.{first-bytes, too-long}
-use Rattle.panel.specs.declared.Condition.{Condition}
-use Rattle.panel.specs.Condition.{empty}
+use Rattle.condition.specs.declared.Condition.{Condition}
+use Rattle.condition.specs.Condition.{empty}
 use Rattle.panel.specs.Step.{stepOf, conditionAfter}
 use Rattle.service.specs.declared.Feed.{Feed}
 use Rattle.service.specs.Lines.{Cut, cut, ended, longer, lastLine, linesOf, sent}
@@ -48,22 +48,6 @@ cut-join : (a b : List ℕ) → cut (a ++ b) ≡ join (cut a) (cut b)
 unfolding cut
 cut-join [] b = sym (front-none (cut b .lines) (cut b .rest))
 cut-join (x ∷ a) b = join-by x (eqb x 10) (cut a .lines) (cut a .rest) (cut b .lines) (cut b .rest) (cut (a ++ b)) (cut-join a b)
-
--- what stands behind the last line has no byte 10
-uncut-by : (b : ℕ) (x : Bool) (ls : List (List ℕ)) (r : List ℕ) → eqb b 10 ≡ x → cut r ≡ record { lines = []; rest = r } →
-    cut (added x b (record { lines = ls; rest = r }) .rest) ≡ record { lines = []; rest = added x b (record { lines = ls; rest = r }) .rest }
-unfolding cut
-uncut-by b true ls r e ih = ih
-uncut-by b false (l ∷ ls) r e ih = ih
-uncut-by b false [] r e ih = rw (e, ih)
-
-pub rest-uncut : (a : List ℕ) → cut (cut a .rest) ≡ record { lines = []; rest = cut a .rest }
-unfolding cut
-rest-uncut [] = refl
-rest-uncut (b ∷ a) = uncut-by b (eqb b 10) (cut a .lines) (cut a .rest) refl (rest-uncut a)
-
-pub cut-append : (a b : List ℕ) → cut (a ++ b) ≡ record { lines = cut a .lines ++ cut (cut a .rest ++ b) .lines; rest = cut (cut a .rest ++ b) .rest }
-cut-append a b = rw (cut-join a b, cut-join (cut a .rest) b, rest-uncut a)
 
 -- ---- none, or at least one
 pub by-count : {P : Type 0} (n : ℕ) → (n ≡ 0 → P) → (0 < n → P) → P

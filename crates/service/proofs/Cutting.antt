@@ -11,7 +11,7 @@ use borrow.Author.Tests.{ne-eqb, le-ltb}
 use lib.Dec.{eqb}
 use Rattle.whole.proofs.Lists.{drop-next, drop-end}
 use Rattle.reply.specs.Written.{over}
-use Rattle.panel.specs.declared.Condition.{Condition}
+use Rattle.condition.specs.declared.Condition.{Condition}
 use Rattle.panel.specs.declared.Heard.{Heard}
 use Rattle.panel.specs.Step.{heardOutcome, stepOf, conditionAfter}
 use Rattle.service.specs.Lines.{Cut, cut, ended, longer, sent}

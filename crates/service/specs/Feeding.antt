@@ -5,7 +5,7 @@ use mathlib.Core.List.{List, [], _∷_, _++_}
 use Prim.Native.Nat.{ℕ, suc, _+_, _-_, _≤_, _<_}
 use lib.Dec.{eqb}
 use lib.ListN.{length, take}
-use Rattle.panel.specs.Condition.{empty}
+use Rattle.condition.specs.Condition.{empty}
 use Rattle.panel.specs.declared.Replied.{Replied}
 use Rattle.panel.specs.Step.{Outcome, stepOf, conditionAfter}
 use Rattle.service.specs.declared.Feed.{Feed}

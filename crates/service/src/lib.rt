@@ -1,5 +1,5 @@
 // Lines from standard input to the panel, and its replies to standard output.
-use panel::Condition;
+use condition::Condition;
 use panel::Heard;
 use panel::Replied;
 ghost use mathlib.Core.Path.{_≡_};
@@ -284,7 +284,7 @@ fn start(lines: u64) -> Feed
     ensures { λ r. ⌜ Stands lines [] r [] × (r .used ≡ 0) × (r .filled ≡ 0) × (r .going ≡ true) ⌝ }
 {
     Feed {
-        cond: panel::empty_condition(),
+        cond: condition::empty_condition(),
         left: lines,
         used: 0,
         filled: 0,

@@ -7,10 +7,10 @@ use native.Mathlib.Decide.{decLe}
 use native.Mathlib.Omega.{arith}
 use lib.IntN.{ℤ, subℕ}
 use Rattle.whole.specs.Divide.{ceilDiv}
-use Rattle.whole.specs.Sign.{plus, minus}
+use Rattle.sign.specs.Sign.{plus, minus}
 use Rattle.whole.specs.Line.{onLine, roundDown}
 use Rattle.whole.proofs.Dividing.{ceil-low, ceil-high}
-use Rattle.whole.proofs.Signs.{sub-reads}
+use Rattle.sign.proofs.Signs.{sub-reads}
 use Rattle.whole.proofs.Lines.{rounded-pos, rounded-neg}
 use Rattle.stability.proofs.Nearness.{Close}
 

@@ -8,9 +8,9 @@ use lib.Dec.{eqb}
 use lib.ListN.{length, getD}
 use lib.IntN.{pos}
 use Rattle.whole.specs.Lists.{within, all}
-use Rattle.whole.specs.Sign.{plus, minus}
+use Rattle.sign.specs.Sign.{plus, minus}
 use Rattle.whole.proofs.Lists.{and-true, Within, within-true, all-at, tabulate-at, tabulate-length, filled-is}
-use Rattle.whole.proofs.Signs.{sub-reads}
+use Rattle.sign.proofs.Signs.{sub-reads}
 use Rattle.whole.proofs.Lines.{line-le}
 use Rattle.whole.proofs.Dividing.{ceil-le, floor-le}
 use Rattle.record.specs.declared.Column.{Column}

@@ -12,10 +12,10 @@ use lib.ListN.{getD}
 use lib.Signed.{ltZ}
 use lib.IntN.{ℤ, pos, negsuc}
 use borrow.Author.Tests.{lt-ltb, le-leb, ltb-true, ltb-false}
-use Rattle.whole.specs.Sign.{plus, minus}
+use Rattle.sign.specs.Sign.{plus, minus}
 use Rattle.whole.specs.Frac.{_≼_, _≺_}
 use Rattle.whole.proofs.Lists.{and-true}
-use Rattle.whole.proofs.Signs.{nlt-most}
+use Rattle.sign.proofs.Signs.{nlt-most}
 use Rattle.whole.proofs.Lines.{rounded-test}
 use Rattle.record.specs.declared.Ship.{Ship}
 use Rattle.stability.specs.declared.Basis.{Basis}
@@ -36,7 +36,8 @@ use Rattle.stability.proofs.Points.{lineOf, along-whole, on-whole, diff
 
 -- ---- tests that fail
 pub or-false : (a b : Bool) → (a || b) ≡ false → (a ≡ false) × (b ≡ false)
-or-false true b e = let z : _≡_ {A = ℕ} 0 1 = cc in absurd (omega arith)
+or-false true b e =
+    let z : _≡_ {A = ℕ} 0 1 = cc in absurd (omega arith)
 or-false false b e = (refl, e)
 
 pub among-false : (heel up : ℕ) (ds : List ℤ) (n : ℕ) → failsAmong heel up ds n ≡ false → (k : ℕ) → k < n → failsAt heel up ds k ≡ false
@@ -74,7 +75,8 @@ or-either false b e = inr e
 
 failing : (heel up : ℕ) (ds : List ℤ) (n : ℕ) → failsAmong heel up ds n ≡ true → Failing heel up ds n
 unfolding failsAmong
-failing heel up ds zero e = let z : _≡_ {A = ℕ} 0 1 = cc in absurd (omega arith)
+failing heel up ds zero e =
+    let z : _≡_ {A = ℕ} 0 1 = cc in absurd (omega arith)
 failing heel up ds (suc n) e =
     ⊎-elim
     (λ (f : failsAmong heel up ds n ≡ true). let r = failing heel up ds n f in record { place = r .place; within = omega (arith, r .within); fails = r .fails })

@@ -24,9 +24,10 @@ use Rattle.record.specs.Filler.{noColumn}
 use Rattle.record.specs.declared.Ship.{Ship}
 use Rattle.stability.specs.declared.Basis.{Basis}
 use Rattle.stability.specs.Verdict.{verdictOf}
-use Rattle.stability.specs.declared.Around.{Around}
-use Rattle.stability.specs.declared.Around.the-variants.{At, Outside}
-use Rattle.stability.specs.Arms.{next, columnsAround, span, past, fluidKG, knArm, kgArm, rightingArm, heelingArm, gm, diff, diffs}
+use Rattle.columns.specs.declared.Around.{Around}
+use Rattle.columns.specs.declared.Around.the-variants.{At, Outside}
+use Rattle.stability.specs.Arms.{span, past, fluidKG, knArm, kgArm, rightingArm, heelingArm, gm, diff, diffs}
+use Rattle.columns.specs.Search.{next, columnsAround}
 
 -- ---- the arms of one column
 whole-quotient : (n m h : ℕ) → 0 < h → n ≡ 1000 * (h * m) → n / h ≡ 1000 * m

@@ -1,6 +1,5 @@
 pub mod Tens
 pub mod Bounds
-pub mod Searching
 pub mod Held
 pub mod Peaks
 pub mod Stretches

@@ -12,8 +12,8 @@ use lib.Signed.{ltZ}
 use lib.IntN.{ℤ, pos, negsuc}
 use borrow.Author.Tests.{le-ltb}
 use borrow.Author.Count.{below-more}
-use Rattle.whole.specs.Sign.{AtMost, Under}
-use Rattle.whole.proofs.Signs.{lt-under, nlt-most}
+use Rattle.sign.specs.Sign.{AtMost, Under}
+use Rattle.sign.proofs.Signs.{lt-under, nlt-most}
 use Rattle.whole.proofs.Lists.{getD-any}
 use Rattle.stability.specs.Verdict.{greater, peak, failsAt, failsAmong}
 

@@ -9,9 +9,9 @@ use native.Mathlib.Decide.{decLe}
 use native.Mathlib.Omega.{arith}
 use lib.ListN.{getD}
 use lib.IntN.{ℤ, pos}
-use Rattle.whole.specs.Sign.{plus, minus}
+use Rattle.sign.specs.Sign.{plus, minus}
 use Rattle.whole.specs.Line.{onLine}
-use Rattle.whole.proofs.Signs.{not-below, below}
+use Rattle.sign.proofs.Signs.{not-below, below}
 use Rattle.whole.proofs.Lines.{line-start, line-end}
 use Rattle.stability.specs.Angles.{angle, width}
 use Rattle.stability.specs.Area.{plusAt, minusAt}

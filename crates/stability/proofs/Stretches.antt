@@ -5,9 +5,8 @@ use native.Mathlib.Omega.{arith}
 use native.Mathlib.Nat.{mul-zero, zero-mul, zero-div, add-zero, mul-pos, mul-div-mul-right, mul-le-mul, mul-le-mul-left, div-le-of-le-mul}
 use mathlib.Core.List.{List}
 use native.Mathlib.Numerals.{add-one}
-use lib.ListN.{getD}
 use lib.IntN.{ℤ, pos, negsuc}
-use Rattle.whole.specs.Sign.{plus, minus}
+use Rattle.sign.specs.Sign.{plus, minus}
 use Rattle.whole.specs.Line.{onLine}
 use Rattle.whole.proofs.Lines.{line-end, line-le}
 use Rattle.stability.specs.Angles.{angle, width}
@@ -74,9 +73,6 @@ part-le h t d e l p w x y =
     omega (arith, area-le t h (endsAbove h t (plus d) (minus d) (plus e) (minus e)) (endsAbove h t (minus d) (plus d) (minus e) (plus e)) l p, ends-le h t (plus d) (minus d) (plus e) (minus e), q, mul-le-mul w (x .above), mul-le-mul-left (2 ^ 26) w)
 
 -- ---- a stretch of the ten DIFFs
-pub stretch-part : (ds : List ℤ) (u k : ℕ) → stretchArea (plusAt ds) (minusAt ds) u k ≡ partArea (width k) (counted u k) (getD ds k (pos 0)) (getD ds (suc k) (pos 0))
-stretch-part ds u k = refl
-
 pub area-more : (ds : List ℤ) (u k : ℕ) → areaOver (plusAt ds) (minusAt ds) u k + stretchArea (plusAt ds) (minusAt ds) u k ≡ areaOver (plusAt ds) (minusAt ds) u (k + 1)
 unfolding areaOver
 area-more ds u k = rw (add-one k) refl

@@ -9,8 +9,8 @@ use lib.Dec.{ltb, leb, ltb→lt, leb→le}
 use lib.ListN.{getD}
 use lib.IntN.{ℤ, pos, subℕ, _-ℤ_}
 use borrow.Author.Tests.{lt-ltb, le-ltb}
-use Rattle.whole.specs.Sign.{plus, minus}
-use Rattle.whole.proofs.Signs.{sub-reads, sub-eq, Reads, difference-is}
+use Rattle.sign.specs.Sign.{plus, minus}
+use Rattle.sign.proofs.Signs.{sub-reads, sub-eq, Reads, difference-is}
 use Rattle.whole.proofs.Tables.{all-at}
 use Rattle.whole.proofs.Lists.{tabulate-at}
 use Rattle.stability.specs.declared.Basis.{Basis}

@@ -6,7 +6,7 @@ use native.Mathlib.Nat.{mul-zero, add-zero, zero-div, mul-div-mul-right}
 use native.Mathlib.Omega.{arith}
 use lib.ListN.{getD}
 use lib.IntN.{ℤ, pos}
-use Rattle.whole.specs.Sign.{plus, minus}
+use Rattle.sign.specs.Sign.{plus, minus}
 use Rattle.whole.specs.Line.{onLine}
 use Rattle.stability.specs.Angles.{angle, width}
 

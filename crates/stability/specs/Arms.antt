@@ -1,34 +1,13 @@
--- Document 01, Arms and verdict: the columns around D, GM, righting and heeling arms and DIFF, in µm.
-use mathlib.Core.Bool.{Bool, cond, _&&_}
-use mathlib.Core.List.{List, [], _∷_}
-use Prim.Native.Nat.{ℕ, suc, _+_, _*_, _-_, _/_}
-use lib.Dec.{leb}
+-- Document 01, Arms and verdict: GM, righting and heeling arms and DIFF, in µm.
+use mathlib.Core.List.{List}
+use Prim.Native.Nat.{ℕ, _+_, _*_, _-_, _/_}
 use lib.ListN.{getD}
 use lib.IntN.{ℤ, pos, subℕ, _-ℤ_}
 use Rattle.whole.specs.Divide.{ceilDiv}
 use Rattle.whole.specs.Line.{onLine, roundDown}
 use Rattle.whole.specs.Lists.{tabulate}
-use Rattle.record.specs.declared.Column.{Column}
 use Rattle.stability.specs.declared.Basis.{Basis}
-use Rattle.stability.specs.declared.Around.{Around}
-use Rattle.stability.specs.declared.Around.the-variants.{At, Outside}
 use Rattle.stability.specs.Angles.{angle, sine}
-
--- one place further
-abbrev pub next : Around → Around
-next (At i) = At (suc i)
-next Outside = Outside
-
--- the first two neighbouring columns with D₁ ≤ D ≤ D₂; outside them all: code 33
-unfoldable pub columnsAround : ℕ → List Column → Around
-columnsAround d [] = Outside
-columnsAround d (a ∷ []) = Outside
-columnsAround d (a ∷ b ∷ ks) = cond (leb (a .d) d && leb d (b .d)) (At 0) (next (columnsAround d (b ∷ ks)))
-
--- the paper's code for each answer
-abbrev pub aroundCode : Around → ℕ
-aroundCode (At i) = 0
-aroundCode Outside = 33
 
 -- D₂ − D₁ and D − D₁
 abbrev pub span : Basis → ℕ

@@ -6,7 +6,7 @@ use mathlib.Core.Logic.{_↔_}
 use Prim.Native.Nat.{ℕ, _+_, _*_, _≤_, _<_}
 use lib.ListN.{length}
 use Rattle.whole.specs.Frac.{_≼_, _≺_}
-use Rattle.whole.specs.Sign.{plus, minus}
+use Rattle.sign.specs.Sign.{plus, minus}
 use Rattle.record.specs.declared.Ship.{Ship}
 use Rattle.limits.specs.Limits.{loadLimits, columnLimits}
 use Rattle.stability.specs.declared.Basis.{Basis}

@@ -1,8 +1,6 @@
 -- Document 01, the exact values: the formulas of the arms, on the same whole W, with no rounding. Each is a whole number over
 -- one denominator above zero, and the exact curves are the straight lines from each of the ten angles to the next.
-use mathlib.Core.List.{List}
 use Prim.Native.Nat.{ℕ, zero, suc, _+_, _*_, _-_, _≤_, _<_}
-use lib.ListN.{getD}
 use Rattle.whole.specs.Line.{onLine}
 use Rattle.whole.specs.Frac.{Frac, frac, _⊕_}
 use Rattle.stability.specs.declared.Basis.{Basis}

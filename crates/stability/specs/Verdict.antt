@@ -1,7 +1,7 @@
 -- Document 01, the verdict: DIFF between the ten angles, UPPER, and codes 40 to 43 in their order.
-use mathlib.Core.Bool.{Bool, true, false, cond, _&&_, _||_}
+use mathlib.Core.Bool.{Bool, false, cond, _&&_, _||_}
 use mathlib.Core.List.{List, [], _∷_}
-use Prim.Native.Nat.{ℕ, zero, suc, _+_, _-_, min}
+use Prim.Native.Nat.{ℕ, zero, suc, _-_, min}
 use lib.Dec.{leb, ltb}
 use lib.ListN.{getD}
 use lib.Signed.{ltZ}

@@ -1,10 +1,10 @@
 -- How the program puts DIFF together from the arrays of arms: the same figures, by their parts above and below zero.
 use mathlib.Core.Path.{_≡_}
 use mathlib.Core.List.{List}
-use Prim.Native.Nat.{ℕ, _+_, _^_, _<_, _≤_}
+use Prim.Native.Nat.{ℕ, _^_, _<_, _≤_}
 use lib.ListN.{getD}
 use Rattle.whole.specs.Lists.{tabulate}
-use Rattle.whole.specs.Sign.{plus, minus}
+use Rattle.sign.specs.Sign.{plus, minus}
 use lib.IntN.{ℤ, pos, _-ℤ_}
 use Rattle.stability.specs.declared.Basis.{Basis}
 use Rattle.stability.specs.declared.Reach.{Reach}

@@ -2,22 +2,17 @@
 ghost use mathlib.Core.Path.{_≡_};
 ghost use mathlib.Core.Bool.{_&&_};
 ghost use lib.Dec.{leb, ltb};
-ghost use Prim.Native.Nat.{ℕ, suc, _+_, _*_, _-_, _/_, _<_, _≤_, _^_};
-ghost use lib.ListN.{getD};
-ghost use lib.IntN.{ℤ, pos, subℕ};
+ghost use Prim.Native.Nat.{_+_, _*_, _-_, _/_, _<_, _≤_, _^_};
 ghost use Rattle.whole.specs.Divide.{ceilDiv};
-ghost use Rattle.whole.specs.Lists.{tabulate};
-ghost use Rattle.whole.specs.Sign.{plus, minus};
+ghost use Rattle.sign.specs.Sign.{plus, minus};
 ghost use Rattle.whole.specs.Line.{onLine};
-ghost use Rattle.record.specs.Held.{held};
 ghost use Rattle.stability.specs.Angles.{angle, sine, heelLimit};
-ghost use Rattle.stability.specs.Arms.{columnsAround, gm, rightingArm, heelingArm, rightingArms, heelingArms, diffs};
+ghost use Rattle.stability.specs.Arms.{gm, rightingArm, heelingArm, rightingArms, heelingArms};
 ghost use Rattle.stability.specs.Verdict.{stretchOf, diffAt, peak, upper, isBelow, failsAmong, failsBeyond, judgedBy, verdictFrom, verdictOf};
 ghost use Rattle.stability.specs.Demand.{Judgeable};
 ghost use Rattle.stability.specs.Walk.{leftOver, leftOvers, ReachOf, Small, Bounded, EndsFit, EndBounds, partArea};
-ghost use Rattle.stability.specs.Area.{areaAbove, endsAbove, stretchArea, areaOver, plusAt, minusAt, area};
+ghost use Rattle.stability.specs.Area.{areaAbove, endsAbove, stretchArea, plusAt, minusAt, area};
 use record::Column;
-use record::Columns;
 use record::Load;
 use record::Rule;
 use record::Ship;
@@ -28,12 +23,6 @@ pub struct Basis {
     pub high: Column,
     pub load: Load,
     pub weight: u64,
-}
-
-// The place of the first of two neighbouring columns around a displacement.
-pub enum Around {
-    At(usize),
-    Outside,
 }
 
 // What the verdict says: passed, or the first test that fails.
@@ -84,30 +73,6 @@ fn sine_at(k: usize) -> u64
     SINES[k]
 }
 
-// Whether low <= d <= high.
-fn is_between(low: u32, d: u32, high: u32) -> bool
-    ensures { λ r. ⌜ r ≡ (leb low d && leb d high) ⌝ }
-{
-    if low <= d { d <= high } else { false }
-}
-
-// The first two neighbouring columns around d.
-pub fn columns_around(cs: Columns, d: u32) -> Around
-    ensures { λ r. ⌜ r ≡ columnsAround d (held cs) ⌝ }
-{
-    let n = choice::smaller(cs.count as u64, 20) as usize;
-    let mut i: usize = 0;
-    while i + 1 < n {
-        let a = cs.places[i];
-        let b = cs.places[i + 1];
-        if is_between(a.d, d, b.d) {
-            return Around::At(i);
-        }
-        i += 1;
-    }
-    Around::Outside
-}
-
 // The stretch in which the angle x lies.
 fn stretch_of(x: u64) -> usize
     ensures { λ r. ⌜ r ≡ stretchOf x ⌝ }
@@ -127,9 +92,9 @@ fn left_over(righting: i64, heeling: u64) -> i64
     requires { ⌜ (plus righting < 2 ^ 40) × (minus righting < 2 ^ 40) × (heeling < 2 ^ 40) ⌝ }
     ensures { λ r. ⌜ r ≡ leftOver righting heeling ⌝ }
 {
-    whole::difference(
-        whole::above_zero(righting),
-        whole::below_zero(righting) + heeling,
+    sign::difference(
+        sign::above_zero(righting),
+        sign::below_zero(righting) + heeling,
     )
 }
 
@@ -200,7 +165,7 @@ fn righting_at(b: Basis, k: usize) -> i64
     let z = high.kn;
     let kn = rights(arm_over(t.span, t.past, a[k] as u64, z[k] as u64), t.span);
     let kg = whole::divide_up(t.fluid * sine_at(k), 1000);
-    whole::difference(kn, kg)
+    sign::difference(kn, kg)
 }
 
 // The heeling arm at the k-th angle, rounded up.
@@ -297,7 +262,7 @@ fn fails_at(heel: u64, upper: u64, d: i64, k: usize) -> bool
     if upper < a {
         return false;
     }
-    whole::is_below(d)
+    sign::is_below(d)
 }
 
 // Whether DIFF is below zero at one of the ten angles above the heel limit and not above UPPER.
@@ -354,10 +319,10 @@ fn part_area(h: u64, t: u64, d: i64, e: i64) -> u64
     requires { ⌜ (t ≤ h) × (0 < h) × (h ≤ 500) × EndBounds d × EndBounds e ⌝ }
     ensures { λ r. ⌜ r ≡ partArea h t d e ⌝ }
 {
-    let p1 = whole::above_zero(d);
-    let m1 = whole::below_zero(d);
-    let p2 = whole::above_zero(e);
-    let m2 = whole::below_zero(e);
+    let p1 = sign::above_zero(d);
+    let m1 = sign::below_zero(d);
+    let p2 = sign::above_zero(e);
+    let m2 = sign::below_zero(e);
     let u = ends_above(h, t, p1, m1, p2, m2);
     let n = ends_above(h, t, m1, p1, m2, p2);
     area_above(t, h, u, n)
@@ -368,8 +333,8 @@ fn full_area(h: u64, d: i64, e: i64) -> u64
     requires { ⌜ (0 < h) × (h ≤ 500) × EndBounds d × EndBounds e ⌝ }
     ensures { λ r. ⌜ r ≡ partArea h h d e ⌝ }
 {
-    let u = whole::above_zero(d) + whole::above_zero(e);
-    let n = whole::below_zero(d) + whole::below_zero(e);
+    let u = sign::above_zero(d) + sign::above_zero(e);
+    let n = sign::below_zero(d) + sign::below_zero(e);
     whole_area(h, u, n)
 }
 
@@ -426,7 +391,7 @@ fn fails_beyond(heel: u64, upper: u64, ds: [i64; 10]) -> bool
     if upper <= heel {
         return false;
     }
-    whole::is_below(diff_at(ds, upper))
+    sign::is_below(diff_at(ds, upper))
 }
 
 // The first test that fails.

@@ -17,10 +17,12 @@ use Rattle.text.specs.Line.{allowed, tested, oneForm, soundToken, readin
 -- what the end of a test says
 pub passed : {x : Bool} {r : Test} → r ≡ tested x → r ≡ Passed → x ≡ true
 passed {x = true} e f = refl
-passed {x = false} e f = let z : _≡_ {A = ℕ} 0 1 = cc in absurd (omega arith)
+passed {x = false} e f =
+    let z : _≡_ {A = ℕ} 0 1 = cc in absurd (omega arith)
 
 pub failed : {x : Bool} {r : Test} → r ≡ tested x → r ≡ Failed → x ≡ false
-failed {x = true} e f = let z : _≡_ {A = ℕ} 0 1 = cc in absurd (omega arith)
+failed {x = true} e f =
+    let z : _≡_ {A = ℕ} 0 1 = cc in absurd (omega arith)
 failed {x = false} e f = refl
 
 module _ (s : List ℕ) where

@@ -30,7 +30,8 @@ run-by b s false e ih = rw (no-run s e)
 -- a run is one token
 pub run-token : (l : List ℕ) → startsRun l ≡ true → tokens l ≡ run (take (runLength l) l) ∷ tokens (drop (runLength l) l)
 unfolding tokens runLength
-run-token [] e = let z : _≡_ {A = ℕ} 0 1 = cc in absurd (omega arith)
+run-token [] e =
+    let z : _≡_ {A = ℕ} 0 1 = cc in absurd (omega arith)
 run-token (b ∷ s) e = rw e (run-by b s (startsRun s) refl (run-token s))
 
 length-by : (b : ℕ) (s : List ℕ) (x : Bool) → runLength s ≤ length s → cond x (suc (runLength s)) 0 ≤ suc (length s)
@@ -159,9 +160,12 @@ module _ (s : List ℕ) (i : ℕ) where
 no-token : (b : ℕ) (s : List ℕ) (x y z : Bool) → inRun b ≡ x → eqb b 40 ≡ y → eqb b 41 ≡ z → (x || y || z) ≡ false → tokens (b ∷ s) ≡ tokens s
 unfolding tokens
 no-token b s false false false e f g h = rw (e, f, g)
-no-token b s true y z e f g h = let w : _≡_ {A = ℕ} 0 1 = cc in absurd (omega arith)
-no-token b s false true z e f g h = let w : _≡_ {A = ℕ} 0 1 = cc in absurd (omega arith)
-no-token b s false false true e f g h = let w : _≡_ {A = ℕ} 0 1 = cc in absurd (omega arith)
+no-token b s true y z e f g h =
+    let w : _≡_ {A = ℕ} 0 1 = cc in absurd (omega arith)
+no-token b s false true z e f g h =
+    let w : _≡_ {A = ℕ} 0 1 = cc in absurd (omega arith)
+no-token b s false false true e f g h =
+    let w : _≡_ {A = ℕ} 0 1 = cc in absurd (omega arith)
 
 gap-by : (b : ℕ) (s : List ℕ) (x : Bool) → startsToken b ≡ x → tokens s ≡ tokens (drop (gap s) s) → tokens (b ∷ s) ≡ tokens (drop (cond x 0 (suc (gap s))) (b ∷ s))
 gap-by b s true e ih = refl

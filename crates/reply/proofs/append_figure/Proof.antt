@@ -6,7 +6,7 @@ use mir.Syntax.{w64}
 use lib.ListN.{length}
 use lib.Signed.{ltZ}
 use lib.IntN.{ℤ, pos}
-use Rattle.whole.specs.Sign.{plus, minus}
+use Rattle.sign.specs.Sign.{plus, minus}
 use Rattle.reply.specs.Written.{decimal}
 use Rattle.reply.proofs.Writing.{into-into, figure-above, figure-below}
 use borrow.Author.Needs.{needs}

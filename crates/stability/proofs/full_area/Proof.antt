@@ -1,7 +1,7 @@
 use mathlib.Core.Path.{_∙_, ap}
 use native.Mathlib.Omega.{arith}
 use mir.Facts.{toZ-ofZ}
-use Rattle.whole.specs.Sign.{plus, minus}
+use Rattle.sign.specs.Sign.{plus, minus}
 use Rattle.stability.proofs.Stretches.{whole-is}
 use borrow.Author.Needs.{needs}
 use Rattle.stability.proofs.full_area.Statement.{statement}

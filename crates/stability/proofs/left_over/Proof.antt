@@ -3,7 +3,7 @@ use mathlib.Core.Path.{_∙_, ap}
 use native.Mathlib.Omega.{arith}
 use mir.Facts.{toZ-ofZ}
 use borrow.Author.Needs.{sfits-of}
-use Rattle.whole.specs.Sign.{plus, minus}
+use Rattle.sign.specs.Sign.{plus, minus}
 use borrow.Author.Needs.{needs}
 use Rattle.stability.proofs.left_over.Statement.{statement}
 use Rattle.stability.proofs.left_over.Tie as tie

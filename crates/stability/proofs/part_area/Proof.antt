@@ -3,7 +3,7 @@ use Prim.Native.Nat.{_^_, _≤_}
 use native.Mathlib.Omega.{arith}
 use native.Mathlib.Nat.{mul-le-mul}
 use mir.Facts.{toZ-ofZ}
-use Rattle.whole.specs.Sign.{plus, minus}
+use Rattle.sign.specs.Sign.{plus, minus}
 use Rattle.whole.proofs.Lines.{line-le}
 use borrow.Author.Needs.{needs}
 use Rattle.stability.proofs.part_area.Statement.{statement}

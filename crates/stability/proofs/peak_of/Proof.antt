@@ -6,7 +6,7 @@ use Prim.Native.Nat.{ℕ, _-_, _≤_}
 use native.Mathlib.Omega.{arith}
 use lib.ListN.{length, getD}
 use lib.IntN.{ℤ, pos}
-use Rattle.whole.proofs.Signs.{machine-under, machine-most}
+use Rattle.sign.proofs.Signs.{machine-under, machine-most}
 use Rattle.stability.specs.Verdict.{peak}
 use Rattle.stability.proofs.Peaks.{Peak, peak-start, peak-keep, peak-move, peak-is, peak-unique}
 use Rattle.stability.proofs.peak_of.Statement.{statement}

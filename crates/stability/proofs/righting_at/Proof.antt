@@ -5,8 +5,8 @@ use native.Mathlib.Nat.{mul-le-mul}
 use mir.Facts.{toZ-ofZ}
 use borrow.Author.Needs.{sfits-of}
 use lib.IntN.{subℕ}
-use Rattle.whole.specs.Sign.{plus, minus}
-use Rattle.whole.proofs.Signs.{sub-reads}
+use Rattle.sign.specs.Sign.{plus, minus}
+use Rattle.sign.proofs.Signs.{sub-reads}
 use Rattle.stability.specs.Arms.{knArm, kgArm, rightingArm}
 use Rattle.stability.proofs.Tens.{sine-le}
 use Rattle.stability.proofs.Bounds.{value-le, kn-le, kg-le}
