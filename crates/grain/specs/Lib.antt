@@ -5,4 +5,3 @@ pub mod Exact
 pub mod Slack
 pub mod Sum
 pub mod Walk
-pub mod Readings
