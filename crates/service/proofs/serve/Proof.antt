@@ -90,7 +90,7 @@ loop-again c =
       search needs,
       search needs,
       search needs,
-      search needs,
+      omega (arith, c .before .before .flush .ensures .1, c .before .before .before .before .before .before .feed-block .ensures .0 .kept, c .before .before .before .before .before .before .feed-block .ensures .0 .enough, c .before .before .before .before .before .before .before .before .before .before .before .before .before .before .before .before .before .loop .inv .3),
       search needs,
       read-more (c .before .before .before .before .before .before .before .before .before .before .before .before .before .before .before .before .before .before .before .before .before .args .lines) (c .before .before .before .before .before .before .before .before .before .before .before .before .before .before .before .before .before .before .before .before .before .args .bytes) (c .before .before .before .before .before .before .before .before .before .before .before .before .before .before .before .before .before .loop .more) (c .before .before .before .before .before .before .before .before .before .before .before .before .fetch .result) (c .before .before .before .before .before .before .before .before .before .before .before .before .before .before .before .before .before .loop .f) (c .before .before .before .before .before .before .feed-block .result) (c .before .before .flush .result) _ _ _ (c .before .before .before .before .before .before .before .before .before .before .before .before .before .before .before .before .before .loop .inv .5) (c .before .before .before .before .before .before .feed-block .ensures .1) (sym (length-take-le _ _ (omega arith))) h (c .before .before .flush .ensures .3) (c .before .before .flush .ensures .2) (c .before .before .flush .ensures .1),
     )
