@@ -14,7 +14,6 @@ use request::Request;
 use stability::Basis;
 use stability::Judgement;
 use stability::Verdict;
-use text::Reading;
 ghost use mathlib.Core.Path.{_≡_};
 ghost use mathlib.Core.Bool.{cond, _&&_};
 ghost use Prim.Native.Nat.{_-_, _≤_};
@@ -28,7 +27,6 @@ ghost use Rattle.stability.specs.Verdict.{judgementCode};
 ghost use Rattle.reply.specs.Replies.{answerReply};
 ghost use Rattle.condition.specs.Condition.{empty, isHeld, withShip, withLoad, withColumns, withHold};
 ghost use Rattle.grain.specs.Sum.{weighedCode};
-ghost use Rattle.text.specs.Line.{readingCode};
 ghost use Rattle.panel.specs.Operations.{shipOperation, loadOperation, columnOperation, holdOperation, dropOperation};
 ghost use Rattle.panel.specs.Step.{verdictGiven, outcomeOf, heardOf, heardOutcome, effectOf, stepOf, Replies, Steps};
 ghost use Rattle.panel.specs.Judge.{judgedOf, judgedAt, placeWeight, weightsOf, Between};
@@ -288,26 +286,13 @@ fn judgement_code(j: Judgement) -> u8
     }
 }
 
-// The paper's code for what the tests of a whole line find.
-fn reading_code(t: Reading) -> u8
-    ensures { λ r. ⌜ r ≡ readingCode t ⌝ }
-{
-    match t {
-        Reading::Sound => 0,
-        Reading::TooLong => 10,
-        Reading::BadByte => 11,
-        Reading::NotOneForm => 12,
-        Reading::BadNumber => 13,
-    }
-}
-
 // ---- the line
 
 // The tests of the whole line, and the request of one that passes them.
 pub fn hear(line: &[u8]) -> Heard
     ensures { λ r. ⌜ r ≡ heardOf (now (line .entry)) ⌝ }
 {
-    let found = reading_code(text::reading_of(line));
+    let found = text::reading_code(text::reading_of(line));
     if found != 0 {
         let request = Request {
             kind: Kind::NoShape,

@@ -118,8 +118,8 @@ module _ (s : List ℕ) (i left : ℕ) where
 
 -- where an inner form ends
 pub placed :
-    (s : List ℕ) (i left q : ℕ) → i < length s → closeAt (drop (i + 1) s) (i + 1) (left - 1) 0 ≡ At q → (i + 1 < q) × (q ≤ length s)
+    (s : List ℕ) (i left q : ℕ) → i < length s → closeAt (drop (i + 1) s) (i + 1) left 0 ≡ At q → (i + 1 < q) × (q ≤ length s)
 unfolding Within
 placed s i left q p e =
-    let w = rw e at (within (drop (i + 1) s) (i + 1) (left - 1) 0) in
+    let w = rw e at (within (drop (i + 1) s) (i + 1) left 0) in
     omega (arith, length-drop (i + 1) s)

@@ -3,3 +3,7 @@ pub mod Walks
 pub mod Numbers
 pub mod Runs
 pub mod Order
+pub mod Forms
+pub mod Decimals
+pub mod Words
+pub mod Codes

@@ -77,7 +77,7 @@ number-zeros (b ∷ d ∷ s) p e =
     let f : b ≡ 48 = e in
     rw (f, and-false (all isDigit (48 ∷ d ∷ s)))
 
-needless : (r : List ℕ) → (1 < length r → getD r 0 0 ≡ 48 → ⊥) → needlessZero r ≡ false
+pub needless : (r : List ℕ) → (1 < length r → getD r 0 0 ≡ 48 → ⊥) → needlessZero r ≡ false
 needless [] p = refl
 needless (b ∷ []) p = refl
 needless (b ∷ d ∷ s) p = ne-eqb b 48 (p (omega arith))

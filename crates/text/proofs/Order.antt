@@ -12,7 +12,7 @@ use Rattle.text.specs.declared.Reading.the-variants.{Sound, TooLong, Bad
 use Rattle.text.specs.declared.Test.{Test}
 use Rattle.text.specs.declared.Test.the-variants.{Passed, Failed}
 use Rattle.text.specs.Token.{tokens}
-use Rattle.text.specs.Line.{allowed, tested, oneForm, soundToken, readingOf}
+use Rattle.text.specs.Line.{allowed, tested, deepest, oneForm, soundToken, readingOf}
 
 -- what the end of a test says
 pub passed : {x : Bool} {r : Test} → r ≡ tested x → r ≡ Passed → x ≡ true
@@ -36,11 +36,11 @@ module _ (s : List ℕ) where
     bad-byte a = rw (le-ltb 2000 (length s) p, a)
 
     module _ (a : all allowed s ≡ true) where
-      pub not-one-form : oneForm 4 s ≡ false → readingOf s ≡ NotOneForm
+      pub not-one-form : oneForm deepest s ≡ false → readingOf s ≡ NotOneForm
       unfolding readingOf
       not-one-form b = rw (le-ltb 2000 (length s) p, a, b)
 
-      module _ (b : oneForm 4 s ≡ true) where
+      module _ (b : oneForm deepest s ≡ true) where
         pub bad-number : all soundToken (tokens s) ≡ false → readingOf s ≡ BadNumber
         unfolding readingOf
         bad-number d = rw (le-ltb 2000 (length s) p, a, b, d)

@@ -52,15 +52,15 @@ other-by b s true y = refl
 other-by b s false true = refl
 other-by b s false false = refl
 
-one-other : (b : ℕ) (s : List ℕ) → inRun b ≡ false → sound (b ∷ s) ≡ sound s
+pub one-other : (b : ℕ) (s : List ℕ) → inRun b ≡ false → sound (b ∷ s) ≡ sound s
 unfolding tokens
 one-other b s e = rw e (other-by b s (eqb b opening) (eqb b closing))
 
-starts : (b : ℕ) (s : List ℕ) → inRun b ≡ true → sound (b ∷ s) ≡ (numberIfDigit (take (runLength (b ∷ s)) (b ∷ s)) && sound (drop (runLength (b ∷ s)) (b ∷ s)))
+pub starts : (b : ℕ) (s : List ℕ) → inRun b ≡ true → sound (b ∷ s) ≡ (numberIfDigit (take (runLength (b ∷ s)) (b ∷ s)) && sound (drop (runLength (b ∷ s)) (b ∷ s)))
 unfolding all
 starts b s e = rw (run-token (b ∷ s) e)
 
-one-long : (b : ℕ) (s : List ℕ) → inRun b ≡ true → 0 < runLength (b ∷ s)
+pub one-long : (b : ℕ) (s : List ℕ) → inRun b ≡ true → 0 < runLength (b ∷ s)
 unfolding runLength
 one-long b s e = rw e (omega arith)
 

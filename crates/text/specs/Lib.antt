@@ -1,3 +1,4 @@
 pub mod Token
 pub mod Line
 pub mod Places
+pub mod Codes

@@ -66,12 +66,16 @@ soundToken opened = true
 soundToken closed = true
 soundToken (run r) = numberIfDigit r
 
+-- how deep a form may be nested
+abbrev pub deepest : ℕ
+deepest = 4
+
 -- the first test that a line fails
 unfoldable pub readingOf : List ℕ → Reading
 readingOf s =
     cond (ltb 2000 (length s)) TooLong
     (cond (not (all allowed s)) BadByte
-    (cond (not (oneForm 4 s)) NotOneForm
+    (cond (not (oneForm deepest s)) NotOneForm
     (cond (not (all soundToken (tokens s))) BadNumber Sound)))
 
 -- the code of each

@@ -5,7 +5,7 @@ ghost use lib.ListN.{length, take, drop};
 ghost use Rattle.whole.specs.Lists.{all, within};
 ghost use Rattle.text.specs.Token.{isDigit, inRun, numberOf, tokens};
 ghost use Rattle.text.specs.Token.{same as Token·same};
-ghost use Rattle.text.specs.Line.{allowed, tested, oneForm, numberIfDigit, soundToken, readingOf};
+ghost use Rattle.text.specs.Line.{allowed, tested, deepest, oneForm, numberIfDigit, soundToken, readingOf, readingCode};
 ghost use Rattle.text.specs.Places.{spaces, closeAt, runLength, digitsFrom, startsToken, gap, nextOf};
 
 // What the tests of a whole line find, in their order.
@@ -130,7 +130,7 @@ fn close_at(s: &[u8], at: usize, left: usize) -> Closed
 
 // 12: whether a line is one closed form, with only spaces outside it and at most four brackets open.
 fn one_form(s: &[u8]) -> Test
-    ensures { λ r. ⌜ r ≡ tested (oneForm 4 (now (s .entry))) ⌝ }
+    ensures { λ r. ⌜ r ≡ tested (oneForm deepest (now (s .entry))) ⌝ }
 {
     let at = skip(s, 0);
     if s.len() <= at {
@@ -260,6 +260,19 @@ pub fn reading_of(line: &[u8]) -> Reading
         return Reading::BadNumber;
     };
     Reading::Sound
+}
+
+// The paper's code for what the tests of a whole line find.
+pub fn reading_code(t: Reading) -> u8
+    ensures { λ r. ⌜ r ≡ readingCode t ⌝ }
+{
+    match t {
+        Reading::Sound => 0,
+        Reading::TooLong => 10,
+        Reading::BadByte => 11,
+        Reading::NotOneForm => 12,
+        Reading::BadNumber => 13,
+    }
 }
 
 // Whether two runs have the same bytes.

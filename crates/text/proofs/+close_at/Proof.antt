@@ -163,7 +163,7 @@ close-at-loop-less t c =
     let i = h .loop .i in
     let left = h .before .before .args .left in
     let r = sym (c .before .before .before .close-at .ensures) ∙ c .before .j .given .1 in
-    let w = placed s i left _ (search needs) r in
+    let w = placed s i _ _ (search needs) r in
     omega arith
 
 close-at-loop-again :
@@ -181,7 +181,7 @@ close-at-loop-again t c =
     let left = h .before .before .args .left in
     let e = close-inner s i left (search needs) (c .before .before .before .before .before .if2 .taken) (c .before .before .before .before .if3 .left) in
     let r = sym (c .before .before .before .close-at .ensures) ∙ c .before .j .given .1 in
-    let w = placed s i left _ (search needs) r in
+    let w = placed s i _ _ (search needs) r in
     (omega arith, omega arith, sym (e ∙ ap (resume s left 0) r) ∙ h .loop .inv .2)
 
 close-at-add-i :

@@ -11,13 +11,13 @@ skip-requires : tie.Need-skip-requires
 skip-requires c κs = search needs
 
 returns : tie.Need-returns
-returns c = ap tested (sym (no-form (c .before .before .before .args .s .now) _ (c .before .skip .ensures .0) 4 (c .if1 .taken)))
+returns c = ap tested (sym (no-form (c .before .before .before .args .s .now) _ (c .before .skip .ensures .0) _ (c .if1 .taken)))
 
 shared-slice-read-if2 : tie.Need-shared-slice-read-if2
 shared-slice-read-if2 c = search needs
 
 returns-2 : tie.Need-returns-2
-returns-2 c = ap tested (sym (not-opened (c .before .before .before .before .before .args .s .now) _ (c .before .before .before .skip .ensures .0) (search needs) 4 (c .if2 .taken)))
+returns-2 c = ap tested (sym (not-opened (c .before .before .before .before .before .args .s .now) _ (c .before .before .before .skip .ensures .0) (search needs) _ (c .if2 .taken)))
 
 add-close-at : tie.Need-add-close-at
 add-close-at c = search needs
@@ -35,27 +35,27 @@ returns-3 : tie.Need-returns-3
 returns-3 c =
     let s = c .before .before .before .before .before .before .before .before .args .s .now in
     let r = sym (c .before .before .close-at .ensures) ∙ c .enum-told .given .1 in
-    ap tested (sym (form-from s _ (c .before .before .before .before .before .before .skip .ensures .0) (search needs) 3 (c .before .before .before .if2 .left) ∙ ap (afterClose 4 s) r))
+    ap tested (sym (form-from s _ (c .before .before .before .before .before .before .skip .ensures .0) (search needs) _ (c .before .before .before .if2 .left) ∙ ap (afterClose _ s) r))
 
 skip-requires-2 : tie.Need-skip-requires-2
 skip-requires-2 c κs =
     let s = c .before .before .before .before .before .before .before .before .before .args .s .now in
     let r = sym (c .before .before .before .close-at .ensures) ∙ c .before .j .given .1 in
-    placed s (c .before .before .before .before .before .before .before .skip .result) 4 _ (search needs) r .1
+    placed s (c .before .before .before .before .before .before .before .skip .result) _ _ (search needs) r .1
 
 returns-4 : tie.Need-returns-4
 returns-4 c =
     let s = c .before .before .before .before .before .before .before .before .before .before .before .args .s .now in
     let i = c .before .before .before .before .before .before .before .before .before .skip .result in
     let r = sym (c .before .before .before .before .before .close-at .ensures) ∙ c .before .before .before .j .given .1 in
-    ap tested (sym (form-from s i (c .before .before .before .before .before .before .before .before .before .skip .ensures .0) (search needs) 3 (c .before .before .before .before .before .before .if2 .left) ∙ ap (afterClose 4 s) r ∙ ends-there 4 s _ (c .before .skip2 .result) (placed s i 4 _ (search needs) r .1) (c .before .skip2 .ensures .0) ∙ ne-eqb _ _ (c .if3 .taken)))
+    ap tested (sym (form-from s i (c .before .before .before .before .before .before .before .before .before .skip .ensures .0) (search needs) _ (c .before .before .before .before .before .before .if2 .left) ∙ ap (afterClose _ s) r ∙ ends-there _ s _ (c .before .skip2 .result) (placed s i _ _ (search needs) r .1) (c .before .skip2 .ensures .0) ∙ ne-eqb _ _ (c .if3 .taken)))
 
 returns-5 : tie.Need-returns-5
 returns-5 c =
     let s = c .before .before .before .before .before .before .before .before .before .before .before .args .s .now in
     let i = c .before .before .before .before .before .before .before .before .before .skip .result in
     let r = sym (c .before .before .before .before .before .close-at .ensures) ∙ c .before .before .before .j .given .1 in
-    ap tested (sym (form-from s i (c .before .before .before .before .before .before .before .before .before .skip .ensures .0) (search needs) 3 (c .before .before .before .before .before .before .if2 .left) ∙ ap (afterClose 4 s) r ∙ ends-there 4 s _ (c .before .skip2 .result) (placed s i 4 _ (search needs) r .1) (c .before .skip2 .ensures .0) ∙ eq-eqb _ _ (c .if3 .left)))
+    ap tested (sym (form-from s i (c .before .before .before .before .before .before .before .before .before .skip .ensures .0) (search needs) _ (c .before .before .before .before .before .before .if2 .left) ∙ ap (afterClose _ s) r ∙ ends-there _ s _ (c .before .skip2 .result) (placed s i _ _ (search needs) r .1) (c .before .skip2 .ensures .0) ∙ eq-eqb _ _ (c .if3 .left)))
 
 pub one-form-spec : {M : Type 1} → statement M
 one-form-spec =
