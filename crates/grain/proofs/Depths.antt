@@ -13,7 +13,7 @@ use Rattle.whole.proofs.Lines.{line-end}
 use Rattle.grain.specs.Depth.{distances, depths, standardDepth}
 
 -- every entry stands 500 mm behind the one before
-distance-is : (k : ℕ) → k < 16 → getD distances k 0 ≡ 500 * (k + 1)
+pub distance-is : (k : ℕ) → k < 16 → getD distances k 0 ≡ 500 * (k + 1)
 distance-is k h = eqb→eq _ _ (at (λ k x. eqb x (500 * (k + 1))) distances tt k h)
 
 -- no entry is above 590

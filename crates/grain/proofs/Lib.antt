@@ -2,4 +2,6 @@ pub mod Depths
 pub mod Sections
 pub mod Walks
 pub mod Weights
+pub mod Totals
 pub mod Accuracy
+pub mod Figures

@@ -1,7 +1,7 @@
 pub mod Depth
 pub mod Section
 pub mod Within
-pub mod Exact
+pub mod Figures
 pub mod Slack
 pub mod Sum
 pub mod Walk

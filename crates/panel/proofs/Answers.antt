@@ -30,14 +30,6 @@ hold-coded c t (Weight w) e = e
 hold-coded c t NoFit e = refl
 hold-coded c t Outside e = refl
 
--- a line
-pub line-sound : (t : Reading) → readingCode t ≡ 0 → t ≡ Sound
-line-sound Sound e = refl
-line-sound TooLong e = absurd (omega arith)
-line-sound BadByte e = absurd (omega arith)
-line-sound NotOneForm e = absurd (omega arith)
-line-sound BadNumber e = absurd (omega arith)
-
 -- what is heard of a line that is turned down, and that it has the line's outcome
 pub heard-down : (line : List ℕ) (t : Reading) (n : ℕ) → n ≡ readingCode t → (n ≡ 0 → ⊥) → heardBy line t ≡ record { code = n; request = plain NoShape }
 heard-down line Sound n e p = absurd (p e)

@@ -2,17 +2,34 @@
 use mathlib.Core.Path.{_≡_, refl, sym, ap, _∙_}
 use mathlib.Core.Bool.{Bool, true, false}
 use mathlib.Core.List.{List, [], _∷_}
-use Prim.Native.Nat.{ℕ, _≤_}
+use Prim.Native.Nat.{ℕ, _≤_, _<_}
 use native.Mathlib.Omega.{arith}
 use lib.Dec.{ltb}
-use borrow.Author.Tests.{ltb-false, le-ltb}
+use borrow.Author.Tests.{ltb-true, ltb-false, lt-ltb, le-ltb}
 use Rattle.text.specs.declared.Reading.{Reading}
 use Rattle.text.specs.declared.Reading.the-variants.{Sound, TooLong, BadByte, NotOneForm, BadNumber}
-use Rattle.text.specs.Line.{readingOf}
+use Rattle.text.specs.Line.{readingOf, readingCode}
+use Rattle.text.proofs.Codes.{line-code}
 use Rattle.request.specs.declared.Kind.{Kind}
 use Rattle.condition.specs.declared.Condition.{Condition}
 use Rattle.panel.specs.Step.{Outcome, outcomeBy, outcomeOf, outcomeAfter, stepOf}
-use Rattle.panel.specs.Demands.{request, Asks, isOneOf}
+use Rattle.panel.specs.Codes.{request, Asks}
+use Rattle.panel.specs.Codes.{Sound as SoundLine}
+use Rattle.panel.specs.Demands.{isOneOf}
+
+-- a line that passes the tests of the whole line: none of 10 to 13 applies
+pub line-sound : (t : Reading) → readingCode t ≡ 0 → t ≡ Sound
+line-sound Sound e = refl
+line-sound TooLong e = absurd (omega arith)
+line-sound BadByte e = absurd (omega arith)
+line-sound NotOneForm e = absurd (omega arith)
+line-sound BadNumber e = absurd (omega arith)
+
+pub none-applies : (line : List ℕ) → readingOf line ≡ Sound → SoundLine line
+none-applies line e = line-code line .sound .0 (ap readingCode e)
+
+pub passes-all : (line : List ℕ) → SoundLine line → readingOf line ≡ Sound
+passes-all line s = line-sound (readingOf line) (line-code line .sound .1 s)
 
 -- the codes that are given before the request is looked at
 abbrev pub early : List ℕ
@@ -28,6 +45,11 @@ pub record Heard (c : Condition) (line : List ℕ) (lent : ℕ) : Type 0 where
   pub outcome : stepOf c line lent ≡ requested c line
 
 module _ (c : Condition) (line : List ℕ) (lent : ℕ) where
+  -- without room for a reply
+  pub short : lent < 96 → stepOf c line lent ≡ record { code = 15; reply = []; after = c }
+  unfolding stepOf
+  short h = rw (lt-ltb lent 96 h)
+
   module _ (room : 96 ≤ lent) where
     pub at-reading : (r : Reading) → readingOf line ≡ r → stepOf c line lent ≡ outcomeAfter c line r
     unfolding stepOf
@@ -54,8 +76,8 @@ module _ (c : Condition) (line : List ℕ) (lent : ℕ) where
     by-reading p BadNumber e = clash _ (at-reading p BadNumber e) refl
 
     by-room : (x : Bool) → ltb lent 96 ≡ x → Heard c line lent
-    unfolding stepOf isOneOf
-    by-room true e = clash (record { code = 15; reply = []; after = c }) (rw e) refl
+    unfolding isOneOf
+    by-room true e = clash (record { code = 15; reply = []; after = c }) (short (ltb-true lent 96 e)) refl
     by-room false e = by-reading (ltb-false lent 96 e) (readingOf line) refl
 
     pub heard : Heard c line lent
@@ -63,11 +85,11 @@ module _ (c : Condition) (line : List ℕ) (lent : ℕ) where
 
   -- a line that was heard asks for what its request is, and has that outcome
   pub asks : (k : Kind) → Heard c line lent → request line .kind ≡ k → Asks line lent k
-  asks k h e = record { room = h .room; sound = h .sound; asked = e }
+  asks k h e = record { room = h .room; sound = none-applies line (h .sound); asked = e }
 
   pub asked : (k : Kind) → Asks line lent k → stepOf c line lent ≡ outcomeBy c k (request line .hold) (request line .column)
   asked k a =
-      hears (a .room) (a .sound) .outcome
+      hears (a .room) (passes-all line (a .sound)) .outcome
       ∙ ap (λ (k : Kind). outcomeBy c k (request line .hold) (request line .column)) (a .asked)
 
   pub code-of : (k : Kind) → Asks line lent k → stepOf c line lent .code ≡ outcomeBy c k (request line .hold) (request line .column) .code

@@ -1,5 +1,5 @@
 -- The codes of each operation (document 01), and that every one but 00 leaves the condition as it was.
-use mathlib.Core.Path.{_≡_, refl, sym, ap, _∙_}
+use mathlib.Core.Path.{_≡_, refl}
 use mathlib.Core.Bool.{Bool, true, false, cond, _&&_, _||_}
 use mathlib.Core.List.{List, [], _∷_}
 use Prim.Native.Nat.{ℕ}
@@ -28,10 +28,9 @@ use Rattle.panel.specs.declared.Judged.the-variants.{Refused, Given}
 use Rattle.condition.specs.Condition.{holdAt, isHeld}
 use Rattle.panel.specs.Operations.{taken, shipOperation, loadOperation, columnChange, columnOperation, holdOperation, dropOperation}
 use Rattle.panel.specs.Judge.{basisAt}
-use Rattle.panel.specs.Step.{Outcome, answered, verdictGiven, outcomeBy, stepOf}
-use Rattle.panel.specs.Demands.{request, Asks, isOneOf}
+use Rattle.panel.specs.Step.{Outcome, answered, verdictGiven, outcomeBy}
+use Rattle.panel.specs.Demands.{isOneOf}
 use Rattle.panel.proofs.Shown.{refusals, judged-by}
-use Rattle.panel.proofs.Asked.{early, requested, heard, asks, code-of}
 
 -- a number of one list is of another that has all of it
 or-true : (x y r : Bool) → (x ≡ true → r ≡ true) → (y ≡ true → r ≡ true) → (x || y) ≡ true → r ≡ true
@@ -112,35 +111,3 @@ module _ (c : Condition) where
       judged-by c (λ (j : Judged). Right (codesOf JudgeLine) c (verdictGiven c j)) right-refusal (λ i. right-verdict (verdictOf (c .ship) (basisAt c i)))
   right-by ClearLine h col = right-taken c _ refl
   right-by NoShape h col = right-same c _ _ refl
-
--- 23 is a column's alone, and 34 judge's
-pub only-column : (k : Kind) → isOneOf (codesOf k) 23 ≡ true → k ≡ ColumnLine
-unfolding isOneOf
-only-column (ShipLine s) e = cc
-only-column ColumnLine e = cc
-only-column (LoadLine l) e = cc
-only-column (HoldLine n) e = cc
-only-column (DropLine n) e = cc
-only-column JudgeLine e = cc
-only-column ClearLine e = cc
-only-column NoShape e = cc
-
-pub only-judge : (k : Kind) → isOneOf (codesOf k) 34 ≡ true → k ≡ JudgeLine
-unfolding isOneOf
-only-judge (ShipLine s) e = cc
-only-judge ColumnLine e = cc
-only-judge (LoadLine l) e = cc
-only-judge (HoldLine n) e = cc
-only-judge (DropLine n) e = cc
-only-judge JudgeLine e = cc
-only-judge ClearLine e = cc
-only-judge NoShape e = cc
-
--- a line with a code that only one kind of request has is of that kind
-pub only-asks : (c : Condition) (line : List ℕ) (lent n : ℕ) → isOneOf early n ≡ false → (k : Kind) → ((j : Kind) → isOneOf (codesOf j) n ≡ true → j ≡ k) → stepOf c line lent .code ≡ n → Asks line lent k × (outcomeBy c k (request line .hold) (request line .column) .code ≡ n)
-only-asks c line lent n late k only e =
-    let h = heard c line lent n e late in
-    let z : requested c line .code ≡ n = ap (λ (o : Outcome). o .code) (sym (h .outcome)) ∙ e in
-    let r = right-by c (request line .kind) (request line .hold) (request line .column) .listed in
-    let a = asks c line lent k h (only (request line .kind) (rw z at r)) in
-    (a, sym (code-of c line lent k a) ∙ e)

@@ -13,7 +13,8 @@ use Rattle.request.specs.declared.Kind.the-variants.{ShipLine, ColumnLine, Load
 use Rattle.condition.specs.declared.Condition.{Condition}
 use Rattle.condition.specs.Condition.{empty}
 use Rattle.panel.specs.Step.{Outcome, outcomeOf, outcomeAfter, stepOf, Sent, conditionAfter, outcomes}
-use Rattle.panel.specs.Demands.{request, printed, isOneOf, CodesArePrinted, RefusalsChangeNothing, ClearStartsAnew}
+use Rattle.panel.specs.Codes.{request}
+use Rattle.panel.specs.Demands.{printed, isOneOf, CodesArePrinted, RefusalsChangeNothing, ClearStartsAnew}
 use Rattle.panel.proofs.Asked.{taken-as}
 use Rattle.panel.proofs.Codes.{among, codesOf, Right, right-same, right-if, right-by}
 

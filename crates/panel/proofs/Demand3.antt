@@ -1,6 +1,6 @@
 -- Demand 3: on a complete condition within its limits judge gives the verdict between the columns around D, and that verdict says what
 -- it says of the exact values.
-use mathlib.Core.Path.{_≡_, ap, _∙_}
+use mathlib.Core.Path.{_≡_, refl, ap, _∙_}
 use Prim.Native.Nat.{ℕ, _+_, _<_}
 use native.Mathlib.Omega.{arith}
 use native.Mathlib.Numerals.{add-one}
@@ -20,10 +20,13 @@ use Rattle.request.specs.declared.Kind.the-variants.{JudgeLine}
 use Rattle.condition.specs.declared.Condition.{Condition}
 use Rattle.panel.specs.declared.Judged.the-variants.{Given}
 use Rattle.panel.specs.Judge.{weight, basisAt, judgedAt, judgedOf}
-use Rattle.panel.specs.Step.{verdictGiven}
+use Rattle.panel.specs.Step.{Outcome, verdictGiven}
+use Rattle.reply.proofs.Shown.{verdict-shown}
+use Rattle.stability.proofs.Shown.{sizes}
 use Rattle.panel.specs.Within.{Within, Complete}
 use Rattle.panel.specs.Demands.{VerdictsHold}
 use Rattle.panel.proofs.Asked.{asked}
+use Rattle.panel.proofs.Demand2.{weight-is-total}
 use Rattle.panel.proofs.Sequence.{held-length}
 use Rattle.panel.proofs.Judging.{places-fitting, columns-ordered, holds-sound, load-within, ready-around, ready-judged}
 
@@ -56,10 +59,32 @@ module _ (c : Condition) (w : Within c) (m : Complete c) where
 pub verdicts-hold : VerdictsHold
 verdicts-hold c line lent w m a =
     let p = ready-around c w (m .ready) in
+    let b = basisAt c (p .0) in
+    let jd = judgeable c w m (p .0) (p .1) in
+    let st = around-at (c .load .d) (held (c .columns)) (p .0) (columns-ordered c w) (p .1) in
+    let o = asked c line lent JudgeLine a ∙ ap (verdictGiven c) (given c w m (p .0) (p .1)) in
+    let z = sizes b jd (c .ship) in
     record {
       place = p .0;
-      around = p .1;
-      outcome = asked c line lent JudgeLine a ∙ ap (verdictGiven c) (given c w m (p .0) (p .1));
-      demand = demand3 (c .ship) (basisAt c (p .0)) (judgeable c w m (p .0) (p .1));
-      margins = margins (c .ship) (basisAt c (p .0)) (judgeable c w m (p .0) (p .1));
+      next = st .place;
+      basis = b;
+      low = refl;
+      high = rw add-one;
+      from = jd .from;
+      to = jd .to;
+      load = refl;
+      weight = weight-is-total c w;
+      code = ap (λ (o : Outcome). o .code) o;
+      shown = rw o
+          (verdict-shown _ (verdictOf (c .ship) b .gm) (verdictOf (c .ship) b .diff) (verdictOf (c .ship) b .upper) (verdictOf (c .ship) b .area)
+          (record {
+            gmAbove = omega (arith, z .gmAbove);
+            gmBelow = omega (arith, z .gmBelow);
+            diffAbove = omega (arith, z .diffAbove);
+            diffBelow = omega (arith, z .diffBelow);
+            upperAbove = omega (arith, z .upper);
+            areaAbove = omega (arith, z .area);
+          }));
+      demand = demand3 (c .ship) b jd;
+      margins = margins (c .ship) b jd;
     }

@@ -27,7 +27,8 @@ use Rattle.condition.specs.Condition.{empty, isHeld}
 use Rattle.panel.specs.Judge.{judgedOf}
 use Rattle.panel.specs.Step.{outcomeBy, stepOf, Sent, conditionAfter}
 use Rattle.panel.specs.Within.{Within, ColumnsTaken}
-use Rattle.panel.specs.Demands.{request, ReachedAreWithin}
+use Rattle.panel.specs.Codes.{request}
+use Rattle.panel.specs.Demands.{ReachedAreWithin}
 use Rattle.panel.proofs.Taking.{place-within}
 use Rattle.panel.proofs.Asked.{taken-as}
 use Rattle.panel.proofs.Effects.{HoldPassed, ship-passed, ship-taken, load-passed, load-taken, column-passed, column-taken, hold-passed, hold-taken, drop-passed, drop-taken, judge-same}

@@ -2,4 +2,6 @@ pub mod Judge
 pub mod Operations
 pub mod Step
 pub mod Within
+pub mod Codes
+pub mod Runs
 pub mod Demands

@@ -5,12 +5,13 @@ use Prim.Native.Nat.{ℕ, zero, suc, _+_, _*_, _-_, _≤_, _<_, min, max}
 use native.Mathlib.Nat.{mul-le-mul-left, mul-le-mul-right, mul-le-mul, le-of-mul-le-mul-right, lt-of-mul-lt-mul-right, le-of-mul-le-mul-left, mul-zero, zero-div, max-eq-right, mul-lt-mul-of-pos-right, div-mul-le-self, lt-div-mul-add, mul-sub, eq-zero-or-pos, mul-pos, le-of-lt, lt-of-lt-of-le}
 use native.Mathlib.Omega.{arith}
 use Rattle.whole.specs.Line.{onLine}
-use Rattle.whole.specs.Frac.{Frac, frac, _⊕_, _≼_, _≺_}
+use Rattle.whole.specs.Frac.{Frac, _⊕_, _≼_, _≺_}
 use Rattle.whole.proofs.Fractions.{≼-add}
 use Rattle.stability.specs.Angles.{angle, width}
 use Rattle.stability.specs.Area.{areaAbove, counted, endsAbove, stretchArea, areaOver}
 use Rattle.stability.specs.Exact.{exactStretch, exactOver}
 use Rattle.stability.proofs.Tens.{angle-rises, angle-nine}
+use Rattle.stability.proofs.Plain.{exactAbove, oneStretch, alike-low, alike-high, stretch-alike}
 
 -- ---- the core: U²/(U + N) rises in U and falls in N, across a change of scale by q
 core-lower : (q U N U' N' : ℕ) → q * U ≤ U' → N' ≤ q * N → U * U * q * (U' + N') ≤ U' * U' * (U + N)
@@ -73,9 +74,6 @@ parts q w p m P M n =
       down = omega (arith, mul-sub q m p);
       small = omega (arith, mul-sub q p m, mul-sub q m p);
     }
-
-abbrev exactAbove : (t s U N : ℕ) → Frac
-exactAbove t s U N = frac (t * U * U) (2 * s * (U + N))
 
 module _ (t s q U N U' N' : ℕ) (pq : 0 < q) (ps : 0 < s) where
   sq : 0 < s * q
@@ -183,15 +181,17 @@ below-add : (k l : ℕ) (f g : Frac) → f .num ≤ k * f .den → g ≺ l → f
 below-add k l f g h i = omega (arith, mul-le-mul-right (g .den) h, mul-lt-mul-of-pos-right i (f .above))
 
 module _ (p m P M : ℕ → ℕ) (w q u : ℕ) (pq : 0 < q) (near : (k : ℕ) → k < 10 → Near q (w * q) (p k) (m k) (P k) (M k)) where
-  one-lower : (k : ℕ) → k < 9 → stretchArea p m u k ≼ exactStretch q P M u k
+  pub one-lower : (k : ℕ) → k < 9 → stretchArea p m u k ≼ exactStretch q P M u k
   one-lower k h =
-      stretch-lower w (width k) (counted u k) q (p k) (m k) (p (suc k)) (m (suc k)) (P k) (M k) (P (suc k)) (M (suc k))
-      (omega (arith, angle-rises k h)) (omega (arith, angle-rises k h)) pq (near k (omega arith)) (near (suc k) (omega arith))
+      alike-low (stretchArea p m u k) (oneStretch q P M u k) (exactStretch q P M u k) (stretch-alike q P M u k pq h)
+      (stretch-lower w (width k) (counted u k) q (p k) (m k) (p (suc k)) (m (suc k)) (P k) (M k) (P (suc k)) (M (suc k))
+      (omega (arith, angle-rises k h)) (omega (arith, angle-rises k h)) pq (near k (omega arith)) (near (suc k) (omega arith)))
 
-  one-upper : (k : ℕ) → k < 9 → exactStretch q P M u k ≺ stretchArea p m u k + 1 + w * counted u k
+  pub one-upper : (k : ℕ) → k < 9 → exactStretch q P M u k ≺ stretchArea p m u k + 1 + w * counted u k
   one-upper k h =
-      stretch-upper w (width k) (counted u k) q (p k) (m k) (p (suc k)) (m (suc k)) (P k) (M k) (P (suc k)) (M (suc k))
-      (omega (arith, angle-rises k h)) (omega (arith, angle-rises k h)) pq (near k (omega arith)) (near (suc k) (omega arith))
+      alike-high (stretchArea p m u k + 1 + w * counted u k) (oneStretch q P M u k) (exactStretch q P M u k) (stretch-alike q P M u k pq h)
+      (stretch-upper w (width k) (counted u k) q (p k) (m k) (p (suc k)) (m (suc k)) (P k) (M k) (P (suc k)) (M (suc k))
+      (omega (arith, angle-rises k h)) (omega (arith, angle-rises k h)) pq (near k (omega arith)) (near (suc k) (omega arith)))
 
   area-lower : (n : ℕ) → n ≤ 9 → areaOver p m u n ≼ exactOver q P M u n
   unfolding areaOver exactOver

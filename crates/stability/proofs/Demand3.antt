@@ -1,99 +1,41 @@
 -- Demand 3: the verdict's code means what it says of the exact values, and the figures shown lie near them.
-use mathlib.Core.Path.{_≡_, refl, sym, ap, subst, _∙_}
-use mathlib.Core.Bool.{Bool, true, false, cond, _&&_, _||_}
-use mathlib.Core.List.{List}
-use mathlib.Core.Logic.{_⊎_, inl, inr, ⊎-elim}
+use mathlib.Core.Path.{_≡_, refl, sym, subst, _∙_}
+use mathlib.Core.Bool.{Bool, true, false, cond, _&&_}
+use mathlib.Core.Logic.{⊎-elim}
 use Prim.Native.Nat.{ℕ, zero, suc, _+_, _*_, _-_, _≤_, _<_}
 use native.Mathlib.Nat.{le-of-mul-le-mul-right, mul-le-mul-right, lt-of-lt-of-le, le-trans, le-of-lt, lt-of-not-le, mul-pos, mul-one, eq-or-lt-of-le}
 use native.Mathlib.Decide.{decLe}
 use native.Mathlib.Omega.{arith}
-use lib.Dec.{leb, ltb, eqb}
-use lib.ListN.{getD}
+use lib.Dec.{ltb}
 use lib.Signed.{ltZ}
-use lib.IntN.{ℤ, pos, negsuc}
+use lib.IntN.{pos}
 use borrow.Author.Tests.{lt-ltb, le-leb, ltb-true, ltb-false}
-use Rattle.sign.specs.Sign.{plus, minus}
+use Rattle.sign.specs.Sign.{AtMost, Under}
 use Rattle.whole.specs.Frac.{_≼_, _≺_}
-use Rattle.whole.proofs.Lists.{and-true}
-use Rattle.sign.proofs.Signs.{nlt-most}
-use Rattle.whole.proofs.Lines.{rounded-test}
+use Rattle.sign.proofs.Signs.{lt-under, nlt-most}
 use Rattle.record.specs.declared.Ship.{Ship}
 use Rattle.stability.specs.declared.Basis.{Basis}
 use Rattle.stability.specs.declared.Judgement.{Judgement}
 use Rattle.stability.specs.declared.Judgement.the-variants.{Passed, ShortOfGm, ShortAtHeel, ShortBeyond, ShortOfArea}
-use Rattle.stability.specs.Angles.{angle, width}
+use Rattle.stability.specs.Angles.{angle, width, heelLimit}
 use Rattle.stability.specs.Arms.{span, fluidKG, spanKM, gm, diffs}
-use Rattle.stability.specs.Area.{plusAt, minusAt, area}
-use Rattle.stability.specs.Verdict.{diffAt, upper, isBelow, failsAt, failsAmong, failsBeyond, judgedBy, judgementCode, verdictOf}
-use Rattle.stability.specs.Exact.{den, exactKN, exactTaken, OnStretch, along, RightingNotBelow, RightingExceedsLess, ExactGMBelow, exactArea}
-use Rattle.stability.specs.Demand.{Judgeable, heel, verdict, code, PassedMeans, ShortAtHeelMeans, SomeAngleFails, oneOfTen, atUpper, ShortBeyondMeans, OneOfFive, is00, is40, is41, is42, is43, Demand3, Margins}
-use Rattle.stability.proofs.Tens.{angle-rises, width-some, Stretch}
-use Rattle.stability.proofs.Nearness.{Close, span-some, den-some, close}
-use Rattle.stability.proofs.Areas.{Near, area-low, area-high}
-use Rattle.stability.proofs.Between.{Floor, above-sub, between, close-line, close-not-below, close-exceeds, floor-low, floor-high, whole-high}
-use Rattle.stability.proofs.Covers.{heel-le, upper-le}
-use Rattle.stability.proofs.Points.{lineOf, along-whole, on-whole, diff-floor, diff-not-below, diff-below, ten-not-below, ten-below, ten-floor}
-
--- ---- tests that fail
-pub or-false : (a b : Bool) → (a || b) ≡ false → (a ≡ false) × (b ≡ false)
-or-false true b e =
-    let z : _≡_ {A = ℕ} 0 1 = cc in absurd (omega arith)
-or-false false b e = (refl, e)
-
-pub among-false : (heel up : ℕ) (ds : List ℤ) (n : ℕ) → failsAmong heel up ds n ≡ false → (k : ℕ) → k < n → failsAt heel up ds k ≡ false
-unfolding failsAmong
-among-false heel up ds zero e k h = absurd (omega arith)
-among-false heel up ds (suc n) e k h =
-    let t = or-false (failsAmong heel up ds n) (failsAt heel up ds n) e in
-    ⊎-elim (λ (f : k ≡ n). rw f (t .1)) (λ (l : k < n). among-false heel up ds n (t .0) k l) (eq-or-lt-of-le {n = k} {m = n} (omega arith))
-
--- two judgements with one code are one
-decoded : ℕ → Judgement
-decoded n =
-    cond (eqb n 40) ShortOfGm (cond (eqb n 41) ShortAtHeel (cond (eqb n 42) ShortBeyond (cond (eqb n 43) ShortOfArea Passed)))
-
-decodes : (v : Judgement) → decoded (judgementCode v) ≡ v
-unfolding decoded
-decodes Passed = refl
-decodes ShortOfGm = refl
-decodes ShortAtHeel = refl
-decodes ShortBeyond = refl
-decodes ShortOfArea = refl
-
-same-code : (v w : Judgement) → judgementCode v ≡ judgementCode w → v ≡ w
-same-code v w e = sym (decodes v) ∙ ap decoded e ∙ decodes w
-
--- one of the first n that fails
-record Failing (heel up : ℕ) (ds : List ℤ) (n : ℕ) : Type 0 where
-  place : ℕ
-  within : place < n
-  fails : failsAt heel up ds place ≡ true
-
-or-either : (a b : Bool) → (a || b) ≡ true → (a ≡ true) ⊎ (b ≡ true)
-or-either true b e = inl refl
-or-either false b e = inr e
-
-failing : (heel up : ℕ) (ds : List ℤ) (n : ℕ) → failsAmong heel up ds n ≡ true → Failing heel up ds n
-unfolding failsAmong
-failing heel up ds zero e =
-    let z : _≡_ {A = ℕ} 0 1 = cc in absurd (omega arith)
-failing heel up ds (suc n) e =
-    ⊎-elim
-    (λ (f : failsAmong heel up ds n ≡ true). let r = failing heel up ds n f in record { place = r .place; within = omega (arith, r .within); fails = r .fails })
-    (λ (f : failsAt heel up ds n ≡ true). record { place = n; within = omega arith; fails = f })
-    (or-either (failsAmong heel up ds n) (failsAt heel up ds n) e)
-
--- a number below c, c being above zero, by its part above zero
-test-true : (z : ℤ) (c : ℕ) → 0 < c → ltZ z (pos c) ≡ true → plus z < c
-test-true (pos n) c h e = ltb-true n c e
-test-true (negsuc n) c h e = h
-
-test-false : (z : ℤ) (c : ℕ) → ltZ z (pos c) ≡ false → c ≤ plus z
-test-false z c e = omega (arith, nlt-most z (pos c) e)
+use Rattle.stability.specs.Area.{plusAt, minusAt, stretchArea, areaOver, area}
+use Rattle.stability.specs.Verdict.{diffAt, upper, isBelow, failsAmong, failsBeyond, judgedBy, judgementCode, verdictOf}
+use Rattle.stability.specs.Exact.{apart, kmOver, den, exactKN, exactTaken, OnStretch, exactTen, exactAt, NotBelow, LessThan, NotUnder, LessOver, ExactGMBelow, exactStretch, exactArea}
+use Rattle.stability.specs.Figures.{RoundedDown, AreaIs, Figures}
+use Rattle.stability.specs.Demand.{Judgeable, PassedMeans, ShortAtHeelMeans, ShortBeyondMeans, Demand3}
+use Rattle.stability.specs.Margins.{Margins}
+use Rattle.stability.proofs.Tens.{angle-is, angle-rises, width-some, Stretch}
+use Rattle.stability.proofs.Nearness.{Close, span-some, den-some, km-is, close, tenth}
+use Rattle.stability.proofs.Areas.{Near, one-lower, one-upper, area-low, area-high}
+use Rattle.stability.proofs.Between.{above-sub, between, floor-is, close-line, close-not-below, close-exceeds, floor-low, floor-high, whole-high}
+use Rattle.stability.proofs.Covers.{heel-is, upper-is, upper-le}
+use Rattle.stability.proofs.Codes.{under-true, or-false, among-false, tenOf, named, at, codes, one-of-five}
+use Rattle.stability.proofs.Points.{lineOf, lineAlong, On, on-is, lineExact, told, along-whole, on-whole, diff-floor, rounded-along, diff-not-below, diff-below, ten-not-below, ten-below, ten-floor}
 
 module _ (b : Basis) (jd : Judgeable b) where
   -- ---- on a stretch
-  stretch-close : (i n k : ℕ) → i < 9 → OnStretch i n k → Close (den b) (3 * (width i * k)) (along (plusAt (diffs b)) i n k) (along (minusAt (diffs b)) i n k) (along (exactKN b) i n k) (along (exactTaken b) i n k)
+  stretch-close : (i n k : ℕ) → i < 9 → On i n k → Close (den b) (3 * (width i * k)) (lineAlong (plusAt (diffs b)) i n k) (lineAlong (minusAt (diffs b)) i n k) (lineAlong (exactKN b) i n k) (lineAlong (exactTaken b) i n k)
   stretch-close i n k h o =
       let p = plusAt (diffs b) in
       let m = minusAt (diffs b) in
@@ -102,14 +44,14 @@ module _ (b : Basis) (jd : Judgeable b) where
       (width i * k) (n - angle i * k) (mul-pos (width-some i h) (o .scale)) (above-sub (angle (suc i)) (angle i) n k (o .to))
 
   -- the rounded lines at a whole angle: what they say of the exact ones
-  righting-not-below : (i x : ℕ) → i < 9 → OnStretch i x 1 → lineOf (minusAt (diffs b)) i x ≤ lineOf (plusAt (diffs b)) i x → RightingNotBelow b i x 1
+  righting-not-below : (i x : ℕ) → i < 9 → On i x 1 → lineOf (minusAt (diffs b)) i x ≤ lineOf (plusAt (diffs b)) i x → NotBelow (lineExact b i x 1)
   righting-not-below i x h o k =
-      close-not-below (den b) 3 (width i * 1) (along (plusAt (diffs b)) i x 1) (along (minusAt (diffs b)) i x 1) (along (exactKN b) i x 1) (along (exactTaken b) i x 1)
+      close-not-below (den b) 3 (width i * 1) (lineAlong (plusAt (diffs b)) i x 1) (lineAlong (minusAt (diffs b)) i x 1) (lineAlong (exactKN b) i x 1) (lineAlong (exactTaken b) i x 1)
       (stretch-close i x 1 h o) (rw (along-whole (minusAt (diffs b)) i x, along-whole (plusAt (diffs b)) i x) k)
 
-  righting-near : (i x : ℕ) → i < 9 → OnStretch i x 1 → lineOf (plusAt (diffs b)) i x ≤ lineOf (minusAt (diffs b)) i x → RightingExceedsLess b 3 i x 1
+  righting-near : (i x : ℕ) → i < 9 → On i x 1 → lineOf (plusAt (diffs b)) i x ≤ lineOf (minusAt (diffs b)) i x → LessThan 3 (lineExact b i x 1)
   righting-near i x h o k =
-      close-exceeds (den b) 3 (width i * 1) (along (plusAt (diffs b)) i x 1) (along (minusAt (diffs b)) i x 1) (along (exactKN b) i x 1) (along (exactTaken b) i x 1)
+      close-exceeds (den b) 3 (width i * 1) (lineAlong (plusAt (diffs b)) i x 1) (lineAlong (minusAt (diffs b)) i x 1) (lineAlong (exactKN b) i x 1) (lineAlong (exactTaken b) i x 1)
       (stretch-close i x 1 h o) (rw (along-whole (minusAt (diffs b)) i x, along-whole (plusAt (diffs b)) i x) k)
 
   -- the exact lines at a whole angle
@@ -142,7 +84,7 @@ module _ (b : Basis) (jd : Judgeable b) where
             let f = or-false (failsAmong heel up (diffs b) 10) (ltb heel up && isBelow (diffAt (diffs b) up)) e42 .1 in
             diff-not-below (diffs b) up i s (rw (lt-ltb heel up k) at f)
 
-    beyond-means : (i n k : ℕ) → i < 9 → OnStretch i n k → heel * k ≤ n → n ≤ up * k → RightingNotBelow b i n k
+    beyond-means : (i n k : ℕ) → i < 9 → On i n k → heel * k ≤ n → n ≤ up * k → NotBelow (lineExact b i n k)
     beyond-means i n k h o l r = first (decLe (angle i) heel)
       where
         rise : angle i < angle (suc i)
@@ -157,7 +99,7 @@ module _ (b : Basis) (jd : Judgeable b) where
         from-up : angle i ≤ up
         from-up = le-of-mul-le-mul-right {k = k} (le-trans (o .from) r) (o .scale)
 
-        last : (x : ℕ) → Stretch x i → x * k ≤ n → lineOf (minusAt (diffs b)) i x ≤ lineOf (plusAt (diffs b)) i x → Dec (angle (suc i) ≤ up) → RightingNotBelow b i n k
+        last : (x : ℕ) → Stretch x i → x * k ≤ n → lineOf (minusAt (diffs b)) i x ≤ lineOf (plusAt (diffs b)) i x → Dec (angle (suc i) ≤ up) → NotBelow (lineExact b i n k)
         last x s f u (yes g) =
             let t : Stretch (angle (suc i)) i = record { within = h; from = le-of-lt rise; to = omega arith } in
             between (angle i) (angle (suc i)) x (angle (suc i)) n k (exactKN b i) (exactKN b (suc i)) (exactTaken b i) (exactTaken b (suc i)) (o .scale) f (o .to) (omega arith)
@@ -167,7 +109,7 @@ module _ (b : Basis) (jd : Judgeable b) where
             between (angle i) (angle (suc i)) x up n k (exactKN b i) (exactKN b (suc i)) (exactTaken b i) (exactTaken b (suc i)) (o .scale) f r (t .to)
             (exact-not-below i x s u) (exact-not-below i up t (above-up i heel-up t))
 
-        first : Dec (angle i ≤ heel) → RightingNotBelow b i n k
+        first : Dec (angle i ≤ heel) → NotBelow (lineExact b i n k)
         first (yes g) =
             let s : Stretch heel i = record { within = h; from = g; to = heel-to } in
             last heel s l (diff-not-below (diffs b) heel i s e41) (decLe (angle (suc i)) up)
@@ -189,79 +131,120 @@ module _ (b : Basis) (jd : Judgeable b) where
 
   -- ---- DIFF at a whole angle
   module _ (x : ℕ) where
-    floor-along : (i : ℕ) → Stretch x i → Floor (along (plusAt (diffs b)) i x 1) (along (minusAt (diffs b)) i x 1) (width i * 1) (diffAt (diffs b) x)
+    floor-along : (i : ℕ) → Stretch x i → RoundedDown (lineAlong (plusAt (diffs b)) i x 1) (lineAlong (minusAt (diffs b)) i x 1) (width i * 1) (diffAt (diffs b) x)
     floor-along i s = rw (mul-one (width i), mul-one (angle i)) (diff-floor (diffs b) x i s)
 
-    pub diff-low : (i : ℕ) → i < 9 → OnStretch i x 1 → plus (diffAt (diffs b) x) * (width i * 1 * den b) + along (exactTaken b) i x 1 ≤ along (exactKN b) i x 1 + minus (diffAt (diffs b) x) * (width i * 1 * den b)
+    pub diff-low : (i : ℕ) → i < 9 → On i x 1 → NotUnder (diffAt (diffs b) x) (lineExact b i x 1)
     diff-low i h o =
-        floor-low (den b) 3 (width i * 1) (along (plusAt (diffs b)) i x 1) (along (minusAt (diffs b)) i x 1) (along (exactKN b) i x 1) (along (exactTaken b) i x 1)
+        floor-low (den b) 3 (width i * 1) (lineAlong (plusAt (diffs b)) i x 1) (lineAlong (minusAt (diffs b)) i x 1) (lineAlong (exactKN b) i x 1) (lineAlong (exactTaken b) i x 1)
         (stretch-close i x 1 h o) (diffAt (diffs b) x) (floor-along i (on-whole i x h o))
 
-    pub diff-high : (i : ℕ) → i < 9 → OnStretch i x 1 → along (exactKN b) i x 1 + minus (diffAt (diffs b) x) * (width i * 1 * den b) < (plus (diffAt (diffs b) x) + 4) * (width i * 1 * den b) + along (exactTaken b) i x 1
+    pub diff-high : (i : ℕ) → i < 9 → On i x 1 → LessOver (diffAt (diffs b) x) 4 (lineExact b i x 1)
     diff-high i h o =
-        floor-high (den b) 3 (width i * 1) (along (plusAt (diffs b)) i x 1) (along (minusAt (diffs b)) i x 1) (along (exactKN b) i x 1) (along (exactTaken b) i x 1)
+        floor-high (den b) 3 (width i * 1) (lineAlong (plusAt (diffs b)) i x 1) (lineAlong (minusAt (diffs b)) i x 1) (lineAlong (exactKN b) i x 1) (lineAlong (exactTaken b) i x 1)
         (stretch-close i x 1 h o) (diffAt (diffs b) x) (floor-along i (on-whole i x h o))
 
-    pub diff-high-ten : (i j : ℕ) → i < 9 → j < 10 → x ≡ angle j → OnStretch i x 1 → along (exactKN b) i x 1 + minus (diffAt (diffs b) x) * (width i * 1 * den b) < (plus (diffAt (diffs b) x) + 3) * (width i * 1 * den b) + along (exactTaken b) i x 1
+    pub diff-high-ten : (i j : ℕ) → i < 9 → j < 10 → x ≡ angle j → On i x 1 → LessOver (diffAt (diffs b) x) 3 (lineExact b i x 1)
     diff-high-ten i j h hj e o =
-        whole-high (den b) 3 (width i * 1) (along (plusAt (diffs b)) i x 1) (along (minusAt (diffs b)) i x 1) (along (exactKN b) i x 1) (along (exactTaken b) i x 1)
+        whole-high (den b) 3 (width i * 1) (lineAlong (plusAt (diffs b)) i x 1) (lineAlong (minusAt (diffs b)) i x 1) (lineAlong (exactKN b) i x 1) (lineAlong (exactTaken b) i x 1)
         (stretch-close i x 1 h o) (diffAt (diffs b) x) (rw (mul-one (width i), mul-one (angle i), e) (ten-floor (diffs b) j i hj (rw e at (on-whole i x h o))))
 
-  -- ---- GM
-  pub gm-below : ltZ (gm b) (pos 300000) ≡ true → ExactGMBelow b 300000
-  unfolding gm
-  gm-below e =
-      rounded-test (spanKM b) (1000 * fluidKG b * span b) (span b) (span-some b jd) 300000 (omega arith) .0
-      (test-true (gm b) 300000 (omega arith) e)
+  -- at the ten angles
+  pub ten-low : (k : ℕ) → k < 10 → NotUnder (tenOf b k) (exactTen b k)
+  ten-low k h = omega (arith, close b jd k h .low)
 
-  pub gm-not-below : ltZ (gm b) (pos 300000) ≡ false → ExactGMBelow b 300000 → ⊥
+  pub ten-high : (k : ℕ) → k < 10 → LessOver (tenOf b k) 3 (exactTen b k)
+  ten-high k h = omega (arith, close b jd k h .high)
+
+  -- ---- GM
+  pub gm-is : RoundedDown (kmOver b) (1000 * (b .load .kg + b .load .fs) * apart b) (apart b) (gm b)
   unfolding gm
-  gm-not-below e k =
-      omega (arith, test-false (gm b) 300000 e, rounded-test (spanKM b) (1000 * fluidKG b * span b) (span b) (span-some b jd) 300000 (omega arith) .1 k)
+  gm-is = rw (km-is b jd) (floor-is (spanKM b) (1000 * fluidKG b * span b) (span b) (span-some b jd))
+
+  pub gm-below : Under (gm b) (pos 300000) → ExactGMBelow b 300000
+  gm-below u = omega (arith, gm-is .high, mul-le-mul-right (apart b) u)
+
+  pub gm-not-below : AtMost (pos 300000) (gm b) → ExactGMBelow b 300000 → ⊥
+  gm-not-below u k = omega (arith, gm-is .low, mul-le-mul-right (apart b) u)
+
+-- ---- the figures
+module _ (s : Ship) (b : Basis) (jd : Judgeable b) where
+  parts : (k : ℕ) → Near 1 0 (plusAt (diffs b) k) (minusAt (diffs b) k) (plusAt (diffs b) k) (minusAt (diffs b) k)
+  parts k = record { low = omega arith; high = omega arith }
+
+  nine : (f : ℕ → ℕ) → 0 + f 0 + f 1 + f 2 + f 3 + f 4 + f 5 + f 6 + f 7 + f 8 ≡ f 0 + f 1 + f 2 + f 3 + f 4 + f 5 + f 6 + f 7 + f 8
+  nine f = omega arith
+
+  area-is : (u : ℕ) → AreaIs (tenOf b) u (area (diffs b) u)
+  unfolding areaOver
+  area-is u =
+      let p = plusAt (diffs b) in
+      let m = minusAt (diffs b) in
+      record {
+        part = stretchArea p m u;
+        low = one-lower p m p m 0 1 u (omega arith) (λ k h. parts k);
+        high = λ k h. subst (λ (n : ℕ). exactStretch 1 p m u k ≺ n) (omega arith) (one-upper p m p m 0 1 u (omega arith) (λ k h. parts k) k h);
+        sum = nine (stretchArea p m u);
+      }
+
+  pub figures : Figures s b (verdictOf s b) (heelLimit s) (tenOf b) (diffAt (diffs b))
+  unfolding verdictOf
+  figures =
+      record {
+        over = den-some b jd;
+        gm = gm-is b jd;
+        heelLimit = heel-is s;
+        tens = tenth b jd;
+        between = λ i x h o. rounded-along (diffs b) i x h o;
+        shown = refl;
+        upper = upper-is s b;
+        area = area-is (upper (s .flood) (diffs b));
+      }
 
 -- ---- the theorem
 module _ (s : Ship) (b : Basis) (jd : Judgeable b) where
-  passed : ltZ (gm b) (pos 300000) ≡ false → isBelow (diffAt (diffs b) (heel s b)) ≡ false → failsBeyond (heel s b) (upper (s .flood) (diffs b)) (diffs b) ≡ false → ltb (area (diffs b) (upper (s .flood) (diffs b))) 429718347 ≡ false → PassedMeans s b
+  passed : ltZ (gm b) (pos 300000) ≡ false → isBelow (diffAt (diffs b) (heelLimit s)) ≡ false → failsBeyond (heelLimit s) (upper (s .flood) (diffs b)) (diffs b) ≡ false → ltb (area (diffs b) (upper (s .flood) (diffs b))) 429718347 ≡ false → PassedMeans s b (verdictOf s b) (heelLimit s) (tenOf b) (diffAt (diffs b))
   unfolding verdictOf
   passed e₁ e₂ e₃ e₄ =
       let u = upper (s .flood) (diffs b) in
+      let heel = heelLimit s in
       record {
-        gm = gm-not-below b jd e₁;
-        atHeel = λ i h o. righting-not-below b jd i (heel s b) h o (diff-not-below (diffs b) (heel s b) i (on-whole i (heel s b) h o) e₂);
-        beyond = beyond-means b jd (heel s b) u e₂ e₃;
+        gm = gm-not-below b jd (nlt-most (gm b) (pos 300000) e₁);
+        atHeel =
+            λ i h o.
+            let p = on-is i heel 1 o in
+            told b NotBelow i heel 1 o (righting-not-below b jd i heel h p (diff-not-below (diffs b) heel i (on-whole i heel h p) e₂));
+        beyond = λ i n k h o l r. told b NotBelow i n k o (beyond-means b jd heel u e₂ e₃ i n k h (on-is i n k o) l r);
         area = le-trans (mul-le-mul-right (exactArea b u .den) (ltb-false (area (diffs b) u) 429718347 e₄)) (area-never-above b jd u);
       }
 
-  short-at-heel : isBelow (diffAt (diffs b) (heel s b)) ≡ true → ShortAtHeelMeans s b
-  short-at-heel e =
-      record {
-        fails = e;
-        near = λ i h o. righting-near b jd i (heel s b) h o (le-of-lt (diff-below (diffs b) (heel s b) i (on-whole i (heel s b) h o) e));
-      }
+  -- where DIFF at a whole angle x is below zero
+  pub short-at : (x : ℕ) → Under (diffAt (diffs b) x) (pos 0) → (i : ℕ) → i < 9 → OnStretch i x 1 → LessThan 3 (exactAt b i x 1)
+  short-at x f i h o =
+      let p = on-is i x 1 o in
+      told b (LessThan 3) i x 1 o (righting-near b jd i x h p (le-of-lt (diff-below (diffs b) x i (on-whole i x h p) (under-true (diffAt (diffs b) x) (pos 0) f))))
 
-  named : failsBeyond (heel s b) (upper (s .flood) (diffs b)) (diffs b) ≡ true → SomeAngleFails s b
+  short-at-heel : isBelow (diffAt (diffs b) (heelLimit s)) ≡ true → ShortAtHeelMeans s b (verdictOf s b) (heelLimit s) (tenOf b) (diffAt (diffs b))
   unfolding verdictOf
-  named e =
-      let u = upper (s .flood) (diffs b) in
-      ⊎-elim
-      (λ (f : failsAmong (heel s b) u (diffs b) 10 ≡ true). let r = failing (heel s b) u (diffs b) 10 f in oneOfTen (r .place) (r .within) (r .fails))
-      (λ (f : (ltb (heel s b) u && isBelow (diffAt (diffs b) u)) ≡ true). let t = and-true (ltb (heel s b) u) (isBelow (diffAt (diffs b) u)) f in atUpper (ltb-true (heel s b) u (t .0)) (t .1))
-      (or-either (failsAmong (heel s b) u (diffs b) 10) (ltb (heel s b) u && isBelow (diffAt (diffs b) u)) e)
+  short-at-heel e =
+      let f = lt-under (diffAt (diffs b) (heelLimit s)) (pos 0) e in
+      record { fails = f; near = short-at (heelLimit s) f }
 
-  short-beyond : failsBeyond (heel s b) (upper (s .flood) (diffs b)) (diffs b) ≡ true → ShortBeyondMeans s b
+  ten-near : (j i : ℕ) → j < 10 → i < 9 → Under (tenOf b j) (pos 0) → OnStretch i (angle j) 1 → LessThan 3 (exactAt b i (angle j) 1)
+  ten-near j i hj h f o =
+      let p = on-is i (angle j) 1 o in
+      told b (LessThan 3) i (angle j) 1 o (righting-near b jd i (angle j) h p (ten-below (diffs b) j i hj (on-whole i (angle j) h p) (under-true (tenOf b j) (pos 0) f)))
+
+  short-beyond : failsBeyond (heelLimit s) (upper (s .flood) (diffs b)) (diffs b) ≡ true → ShortBeyondMeans s b (verdictOf s b) (heelLimit s) (tenOf b) (diffAt (diffs b))
   unfolding verdictOf
   short-beyond e =
-      let u = upper (s .flood) (diffs b) in
       record {
-        fails = named e;
-        nearTen =
-            λ j i hj h f o.
-            let c = and-true (ltb (heel s b) (angle j) && leb (angle j) u) (isBelow (getD (diffs b) j (pos 0))) f .1 in
-            righting-near b jd i (angle j) h o (ten-below (diffs b) j i hj (on-whole i (angle j) h o) c);
-        nearUpper = λ i h l f o. righting-near b jd i u h o (le-of-lt (diff-below (diffs b) u i (on-whole i u h o) f));
+        fails = named s b e;
+        nearTen = λ j i hj h l r f o. subst (λ (x : ℕ). LessThan 3 (exactAt b i x 1)) (sym (angle-is j)) (ten-near j i hj h f (rw (angle-is j) at o));
+        nearUpper = λ i h l f o. short-at (upper (s .flood) (diffs b)) f i h o;
       }
 
-  short-of-area : ltb (area (diffs b) (upper (s .flood) (diffs b))) 429718347 ≡ true → exactArea b (verdict s b .upper) ≺ 429718347 + 12009
+  short-of-area : ltb (area (diffs b) (upper (s .flood) (diffs b))) 429718347 ≡ true → exactArea b (verdictOf s b .upper) ≺ 429718347 + 12009
   unfolding verdictOf
   short-of-area e =
       let u = upper (s .flood) (diffs b) in
@@ -270,53 +253,57 @@ module _ (s : Ship) (b : Basis) (jd : Judgeable b) where
 
   -- what each judgement says
   abbrev Means : Judgement → Type 0
-  Means Passed = PassedMeans s b
+  Means Passed = PassedMeans s b (verdictOf s b) (heelLimit s) (tenOf b) (diffAt (diffs b))
   Means ShortOfGm = ExactGMBelow b 300000
-  Means ShortAtHeel = ShortAtHeelMeans s b
-  Means ShortBeyond = ShortBeyondMeans s b
-  Means ShortOfArea = exactArea b (verdict s b .upper) ≺ 429718347 + 12009
+  Means ShortAtHeel = ShortAtHeelMeans s b (verdictOf s b) (heelLimit s) (tenOf b) (diffAt (diffs b))
+  Means ShortBeyond = ShortBeyondMeans s b (verdictOf s b) (heelLimit s) (tenOf b) (diffAt (diffs b))
+  Means ShortOfArea = exactArea b (verdictOf s b .upper) ≺ 429718347 + 12009
 
-  cases : (t₁ t₂ t₃ t₄ : Bool) → ltZ (gm b) (pos 300000) ≡ t₁ → isBelow (diffAt (diffs b) (heel s b)) ≡ t₂ → failsBeyond (heel s b) (upper (s .flood) (diffs b)) (diffs b) ≡ t₃ → ltb (area (diffs b) (upper (s .flood) (diffs b))) 429718347 ≡ t₄ → Means (cond t₁ ShortOfGm (cond t₂ ShortAtHeel (cond t₃ ShortBeyond (cond t₄ ShortOfArea Passed))))
-  cases true t₂ t₃ t₄ e₁ e₂ e₃ e₄ = gm-below b jd e₁
+  cases : (t₁ t₂ t₃ t₄ : Bool) → ltZ (gm b) (pos 300000) ≡ t₁ → isBelow (diffAt (diffs b) (heelLimit s)) ≡ t₂ → failsBeyond (heelLimit s) (upper (s .flood) (diffs b)) (diffs b) ≡ t₃ → ltb (area (diffs b) (upper (s .flood) (diffs b))) 429718347 ≡ t₄ → Means (cond t₁ ShortOfGm (cond t₂ ShortAtHeel (cond t₃ ShortBeyond (cond t₄ ShortOfArea Passed))))
+  cases true t₂ t₃ t₄ e₁ e₂ e₃ e₄ = gm-below b jd (lt-under (gm b) (pos 300000) e₁)
   cases false true t₃ t₄ e₁ e₂ e₃ e₄ = short-at-heel e₂
   cases false false true t₄ e₁ e₂ e₃ e₄ = short-beyond e₃
   cases false false false true e₁ e₂ e₃ e₄ = short-of-area e₄
   cases false false false false e₁ e₂ e₃ e₄ = passed e₁ e₂ e₃ e₄
 
-  means : Means (verdict s b .judgement)
+  means : Means (verdictOf s b .judgement)
   unfolding verdictOf judgedBy
   means =
-      cases (ltZ (gm b) (pos 300000)) (isBelow (diffAt (diffs b) (heel s b))) (failsBeyond (heel s b) (upper (s .flood) (diffs b)) (diffs b)) (ltb (area (diffs b) (upper (s .flood) (diffs b))) 429718347)
+      cases (ltZ (gm b) (pos 300000)) (isBelow (diffAt (diffs b) (heelLimit s))) (failsBeyond (heelLimit s) (upper (s .flood) (diffs b)) (diffs b)) (ltb (area (diffs b) (upper (s .flood) (diffs b))) 429718347)
       refl refl refl refl
 
-  forty-to : (t : Bool) → ltZ (gm b) (pos 300000) ≡ t → ExactGMBelow b 300000 → verdict s b .judgement ≡ ShortOfGm
-  unfolding verdictOf judgedBy
-  forty-to true e k = rw e
-  forty-to false e k = absurd (gm-not-below b jd e k)
+  means-at : (w : Judgement) → judgementCode (verdictOf s b .judgement) ≡ judgementCode w → Means w
+  means-at w = at Means (verdictOf s b .judgement) w means
 
-  -- by the code: each number is that of one judgement
-  one-of : (v : Judgement) → verdict s b .judgement ≡ v → OneOfFive s b
-  one-of Passed e = is00 (ap judgementCode e)
-  one-of ShortOfGm e = is40 (ap judgementCode e)
-  one-of ShortAtHeel e = is41 (ap judgementCode e)
-  one-of ShortBeyond e = is42 (ap judgementCode e)
-  one-of ShortOfArea e = is43 (ap judgementCode e)
-
-  at : (v w : Judgement) → verdict s b .judgement ≡ v → code s b ≡ judgementCode w → Means w
-  at v w e c = subst Means (same-code v w (sym (ap judgementCode e) ∙ c)) (subst Means e means)
+  -- the exact GM below 300,000 shows in the GM
+  gm-shows : ExactGMBelow b 300000 → Under (verdictOf s b .gm) (pos 300000)
+  unfolding verdictOf
+  gm-shows k = go (ltZ (gm b) (pos 300000)) refl
+    where
+      go : (t : Bool) → ltZ (gm b) (pos 300000) ≡ t → Under (gm b) (pos 300000)
+      go true e = lt-under (gm b) (pos 300000) e
+      go false e = absurd (gm-not-below b jd (nlt-most (gm b) (pos 300000) e) k)
 
 -- (nothing is asked of the ship: it holds for every FLOOD and EDGE)
 pub demand3 : (s : Ship) (b : Basis) → Judgeable b → Demand3 s b
 demand3 s b jd =
     record {
-      heelWithin = heel-le s b;
-      upperWithin = upper-le s b;
-      oneOf = one-of s b jd (verdict s b .judgement) refl;
-      fortyExactly = (at s b jd (verdict s b .judgement) ShortOfGm refl, λ k. ap judgementCode (forty-to s b jd (ltZ (gm b) (pos 300000)) refl k));
-      at00 = at s b jd (verdict s b .judgement) Passed refl;
-      at41 = at s b jd (verdict s b .judgement) ShortAtHeel refl;
-      at42 = at s b jd (verdict s b .judgement) ShortBeyond refl;
-      at43 = at s b jd (verdict s b .judgement) ShortOfArea refl;
+      heel = heelLimit s;
+      ten = tenOf b;
+      diff = diffAt (diffs b);
+      holds =
+          record {
+            figures = figures s b jd;
+            codes = codes s b;
+            heelWithin = heel-is s .most;
+            upperWithin = upper-le s b;
+            oneOf = one-of-five s b;
+            fortyExactly = (means-at s b jd ShortOfGm, λ k. codes s b .is40 .1 (gm-shows s b jd k));
+            at00 = means-at s b jd Passed;
+            at41 = means-at s b jd ShortAtHeel;
+            at42 = means-at s b jd ShortBeyond;
+            at43 = means-at s b jd ShortOfArea;
+          };
     }
 
 -- ---- the margins
@@ -324,10 +311,20 @@ pub margins : (s : Ship) (b : Basis) → Judgeable b → Margins s b
 unfolding verdictOf
 margins s b jd =
     let u = upper (s .flood) (diffs b) in
+    let heel = heelLimit s in
     record {
-      areaLow = area-never-above b jd u;
-      areaHigh = area-never-far b jd u;
-      diffLow = diff-low b jd (heel s b);
-      diffHigh = diff-high b jd (heel s b);
-      diffHighTen = diff-high-ten b jd (heel s b);
+      heel = heel;
+      ten = tenOf b;
+      diff = diffAt (diffs b);
+      figures = figures s b jd;
+      near =
+          record {
+            areaLow = area-never-above b jd u;
+            areaHigh = area-never-far b jd u;
+            tenLow = ten-low b jd;
+            tenHigh = ten-high b jd;
+            diffLow = λ i h o. told b (NotUnder (diffAt (diffs b) heel)) i heel 1 o (diff-low b jd heel i h (on-is i heel 1 o));
+            diffHigh = λ i h o. told b (LessOver (diffAt (diffs b) heel) 4) i heel 1 o (diff-high b jd heel i h (on-is i heel 1 o));
+            diffHighTen = λ i j h hj e o. told b (LessOver (diffAt (diffs b) heel) 3) i heel 1 o (diff-high-ten b jd heel i j h hj (e ∙ angle-is j) (on-is i heel 1 o));
+          };
     }

@@ -4,8 +4,11 @@ pub mod Held
 pub mod Peaks
 pub mod Stretches
 pub mod Nearness
+pub mod Plain
 pub mod Areas
 pub mod Between
 pub mod Points
 pub mod Covers
+pub mod Codes
 pub mod Demand3
+pub mod Shown

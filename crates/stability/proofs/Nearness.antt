@@ -1,8 +1,11 @@
 -- Demand 3, at each of the ten angles: the exact difference of the arms is never below DIFF, and less than 3 above it.
+use mathlib.Core.Path.{_≡_}
 use mathlib.Core.Bool.{_&&_}
 use Prim.Native.Nat.{ℕ, _+_, _*_, _-_, _/_, _≤_, _<_}
 use native.Mathlib.Nat.{mul-le-mul-right, mul-lt-mul-of-pos-right, div-mul-le-self, lt-div-mul-add, mul-pos, mul-sub, le-of-lt}
 use native.Mathlib.Omega.{arith}
+use lib.ListN.{getD}
+use lib.IntN.{pos}
 use Rattle.whole.specs.Divide.{ceilDiv}
 use Rattle.whole.specs.Lists.{within}
 use Rattle.whole.proofs.Dividing.{ceil-low, ceil-high}
@@ -10,11 +13,12 @@ use Rattle.whole.proofs.Lists.{and-true, within-true}
 use Rattle.limits.specs.Limits.{loadLimits}
 use Rattle.stability.specs.declared.Basis.{Basis}
 use Rattle.stability.specs.Angles.{angle, sine}
-use Rattle.stability.specs.Arms.{span, fluidKG, spanKN, knArm, kgArm, heelingArm, diffs}
+use Rattle.stability.specs.Arms.{span, past, fluidKG, spanKM, spanKN, knArm, kgArm, heelingArm, diffs}
 use Rattle.stability.specs.Area.{plusAt, minusAt}
-use Rattle.stability.specs.Exact.{heelDen, den, exactKN, exactTaken}
+use Rattle.stability.specs.Exact.{kmOver, knOver, kgOver, heelOver, den, exactKN, exactTaken}
+use Rattle.stability.specs.Figures.{DiffIs}
 use Rattle.stability.specs.Demand.{Judgeable}
-use Rattle.stability.proofs.Tens.{diff-reads}
+use Rattle.stability.proofs.Tens.{angle-is, sine-is, diff-reads}
 
 -- (P − M)/q is at least p − m, and less than w above it
 pub record Close (q w p m P M : ℕ) : Type 0 where
@@ -49,7 +53,7 @@ module _ (b : Basis) (j : Judgeable b) where
   pub span-some : 0 < span b
   span-some = omega (arith, j .apart)
 
-  heelDen-some : 0 < heelDen b
+  heelDen-some : 0 < 20000 * b .load .d
   unfolding loadLimits
   heelDen-some =
       let l = b .load in
@@ -60,11 +64,42 @@ module _ (b : Basis) (j : Judgeable b) where
   pub den-some : 0 < den b
   den-some = mul-pos span-some (omega (arith, heelDen-some))
 
+  -- D₂ − D is what is left of the span
+  left : b .high .d - b .load .d ≡ span b - past b
+  left = omega (arith, j .from)
+
+  pub km-is : kmOver b ≡ spanKM b
+  km-is = rw left
+
+  kn-is : (k : ℕ) → knOver b k ≡ spanKN b k
+  kn-is k = rw left
+
+  kg-is : (k : ℕ) → kgOver b k ≡ fluidKG b * sine k
+  kg-is k = rw (sine-is k)
+
+  heel-is : (k : ℕ) → heelOver b k ≡ 1000 * b .weight * (20000 - angle k)
+  heel-is k = rw (angle-is k)
+
   -- at the k-th angle
   pub close : (k : ℕ) → k < 10 → Close (den b) 3 (plusAt (diffs b) k) (minusAt (diffs b) k) (exactKN b k) (exactTaken b k)
   unfolding knArm kgArm heelingArm
   close k h =
       let r = diff-reads b k h in
-      rw (r .pluses, r .minuses)
-      (close-parts (den b) 3 (knArm b k) (kgArm b k + heelingArm b k) (exactKN b k) (exactTaken b k)
-      (close-three (spanKN b k) (span b) (fluidKG b * sine k) 1000 (1000 * b .weight * (20000 - angle k)) (heelDen b) span-some (omega arith) heelDen-some))
+      rw (r .pluses, r .minuses, kn-is k, kg-is k, heel-is k)
+      (close-parts (den b) 3 (knArm b k) (kgArm b k + heelingArm b k) (spanKN b k * (1000 * (20000 * b .load .d))) _
+      (close-three (spanKN b k) (span b) (fluidKG b * sine k) 1000 (1000 * b .weight * (20000 - angle k)) (20000 * b .load .d) span-some (omega arith) heelDen-some))
+
+  -- and what DIFF is made of
+  pub tenth : (k : ℕ) → k < 10 → DiffIs b k (getD (diffs b) k (pos 0))
+  unfolding knArm kgArm heelingArm
+  tenth k h =
+      let r = diff-reads b k h in
+      record {
+        kn = knArm b k;
+        kg = kgArm b k;
+        heeling = heelingArm b k;
+        knDown = rw (kn-is k) (omega (arith, div-mul-le-self (spanKN b k) (span b)), omega (arith, lt-div-mul-add {a = spanKN b k} span-some));
+        kgUp = rw (kg-is k) (ceil-low (fluidKG b * sine k) 1000 (omega arith), ceil-high (fluidKG b * sine k) 1000 (omega arith));
+        heelingUp = rw (heel-is k) (ceil-low (1000 * b .weight * (20000 - angle k)) (20000 * b .load .d) heelDen-some, ceil-high (1000 * b .weight * (20000 - angle k)) (20000 * b .load .d) heelDen-some);
+        less = omega (arith, r .pluses, r .minuses);
+      }

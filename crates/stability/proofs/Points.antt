@@ -1,5 +1,5 @@
 -- Points of the nine stretches: an angle that lies on two of them has one value, and what the tests of DIFF say of the lines.
-use mathlib.Core.Path.{_≡_, refl, sym, subst}
+use mathlib.Core.Path.{_≡_, refl, sym, ap, subst}
 use mathlib.Core.Bool.{true, false}
 use mathlib.Core.List.{List}
 use mathlib.Core.Logic.{⊎-elim}
@@ -16,9 +16,11 @@ use Rattle.whole.proofs.Lines.{line-start, line-end}
 use Rattle.stability.specs.Angles.{angle, width}
 use Rattle.stability.specs.Area.{plusAt, minusAt}
 use Rattle.stability.specs.Verdict.{stretchOf, diffAt, isBelow}
-use Rattle.stability.specs.Exact.{OnStretch, along}
-use Rattle.stability.proofs.Tens.{angle-rises, angle-le, width-some, Stretch, stretch-is}
-use Rattle.stability.proofs.Between.{Floor, floor-is, floor-move, floor-not-below, floor-below, floor-whole}
+use Rattle.stability.specs.Exact.{angleOf, wide, OnStretch, along, den, exactKN, exactTaken, Exact, exactAt}
+use Rattle.stability.specs.Figures.{RoundedDown}
+use Rattle.stability.specs.declared.Basis.{Basis}
+use Rattle.stability.proofs.Tens.{angle-is, angle-rises, angle-le, width-some, Stretch, stretch-is}
+use Rattle.stability.proofs.Between.{sub-times, floor-is, floor-move, floor-not-below, floor-below, floor-whole}
 
 -- ---- the ten angles rise
 pub angle-up : (i j : ℕ) → i < j → j < 10 → angle i < angle j
@@ -31,10 +33,45 @@ angle-up i (suc j) h k =
 abbrev pub lineOf : (ℕ → ℕ) → (i x : ℕ) → ℕ
 lineOf f i x = onLine (width i) (x - angle i) (f i) (f (suc i))
 
-pub along-whole : (f : ℕ → ℕ) (i x : ℕ) → along f i x 1 ≡ lineOf f i x
+-- the same at n/k, times k: what is said along a stretch is said of this line
+abbrev pub lineAlong : (ℕ → ℕ) → (i n k : ℕ) → ℕ
+lineAlong f i n k = onLine (width i * k) (n - angle i * k) (f i) (f (suc i))
+
+pub record On (i n k : ℕ) : Type 0 where
+  pub scale : 0 < k
+  pub from : angle i * k ≤ n
+  pub to : n ≤ angle (suc i) * k
+
+pub on-is : (i n k : ℕ) → OnStretch i n k → On i n k
+unfolding angle angleOf
+on-is i n k o = record { scale = o .scale; from = o .from; to = o .to }
+
+pub along-is : (f : ℕ → ℕ) (i n k : ℕ) → OnStretch i n k → along f i n k ≡ lineAlong f i n k
+along-is f i n k o =
+    let p = on-is i n k o in
+    let e : angle (suc i) * k - n ≡ width i * k - (n - angle i * k) = rw (sub-times (angle (suc i)) (angle i) k) (omega (arith, p .from)) in
+    rw (angle-is i, angle-is (suc i), e)
+
+abbrev pub lineExact : Basis → (i n k : ℕ) → Exact
+lineExact b i n k =
+    record { rights = lineAlong (exactKN b) i n k; takes = lineAlong (exactTaken b) i n k; over = width i * k * den b }
+
+wide-is : (i : ℕ) → wide i ≡ width i
+unfolding angle angleOf
+wide-is i = refl
+
+pub told : (b : Basis) (F : Exact → Type 0) (i n k : ℕ) → OnStretch i n k → F (lineExact b i n k) → F (exactAt b i n k)
+told b F i n k o f =
+    subst F
+    (sym (alike _ _ _ _ _ _ (along-is (exactKN b) i n k o) (along-is (exactTaken b) i n k o) (ap (λ w. w * k * den b) (wide-is i)))) f
+  where
+    alike : (r t w r' t' w' : ℕ) → r ≡ r' → t ≡ t' → w ≡ w' → _≡_ {A = Exact} (record { rights = r; takes = t; over = w }) (record { rights = r'; takes = t'; over = w' })
+    alike r t w r' t' w' d e g = rw (d, e, g) refl
+
+pub along-whole : (f : ℕ → ℕ) (i x : ℕ) → lineAlong f i x 1 ≡ lineOf f i x
 along-whole f i x = rw (mul-one (width i), mul-one (angle i))
 
-pub on-whole : (i x : ℕ) → i < 9 → OnStretch i x 1 → Stretch x i
+pub on-whole : (i x : ℕ) → i < 9 → On i x 1 → Stretch x i
 on-whole i x h o = record { within = h; from = omega (arith, o .from); to = omega (arith, o .to) }
 
 -- the j-th of the ten angles, if it lies on the i-th stretch, is one of its ends
@@ -78,7 +115,7 @@ module _ (ds : List ℤ) (x i : ℕ) (s : Stretch x i) where
   here : Stretch x (stretchOf x)
   here = stretch-is x (omega (arith, s .to, angle-le (suc i) (omega (arith, s .within))))
 
-  pub diff-floor : Floor (lineOf (plusAt ds) i x) (lineOf (minusAt ds) i x) (width i) (diffAt ds x)
+  pub diff-floor : RoundedDown (lineOf (plusAt ds) i x) (lineOf (minusAt ds) i x) (width i) (diffAt ds x)
   unfolding diffAt
   diff-floor =
       let j = stretchOf x in
@@ -95,6 +132,11 @@ module _ (ds : List ℤ) (x i : ℕ) (s : Stretch x i) where
   diff-below e =
       let r = below (diffAt ds x) e in
       floor-below (lineOf (plusAt ds) i x) (lineOf (minusAt ds) i x) (width i) (diffAt ds x) (r .none) (r .some) diff-floor
+
+pub rounded-along : (ds : List ℤ) (i x : ℕ) → i < 9 → OnStretch i x 1 → RoundedDown (along (plusAt ds) i x 1) (along (minusAt ds) i x 1) (wide i) (diffAt ds x)
+rounded-along ds i x h o =
+    rw (along-is (plusAt ds) i x 1 o, along-is (minusAt ds) i x 1 o, along-whole (plusAt ds) i x, along-whole (minusAt ds) i x, wide-is i)
+    (diff-floor ds x i (on-whole i x h (on-is i x 1 o)))
 
 -- ---- DIFF at the j-th of the ten angles
 module _ (ds : List ℤ) (j i : ℕ) (h : j < 10) (s : Stretch (angle j) i) where

@@ -17,6 +17,16 @@ use Rattle.stability.specs.declared.Basis.{Basis}
 use Rattle.stability.specs.Angles.{angles, sines, angle, sine, width}
 use Rattle.stability.specs.Arms.{knArm, kgArm, rightingArm, heelingArm, diff, diffs}
 use Rattle.stability.specs.Verdict.{anglesBelow, stretchOf}
+use Rattle.stability.specs.Exact.{angleOf, sineOf}
+
+-- ---- the tables are the printed ones
+pub angle-is : (k : ℕ) → angleOf k ≡ angle k
+unfolding angle angleOf
+angle-is k = refl
+
+pub sine-is : (k : ℕ) → sineOf k ≡ sine k
+unfolding sine sineOf
+sine-is k = refl
 
 -- ---- the tables, each rule by one test over the whole
 pub angle-rises : (k : ℕ) → k < 9 → angle k < angle (suc k)

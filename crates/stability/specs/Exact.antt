@@ -1,41 +1,70 @@
--- Document 01, the exact values: the formulas of the arms, on the same whole W, with no rounding. Each is a whole number over
--- one denominator above zero, and the exact curves are the straight lines from each of the ten angles to the next.
+-- Document 01, the exact values, with no rounding: from the fields of the columns and the load, on the same whole W. The paper's numbers
+-- stand here once more, and no formula is shared with the rounded figures. Each value is a whole number over one denominator above
+-- zero, and the exact curves are the straight lines from each of the ten angles to the next.
+use mathlib.Core.Bool.{cond}
+use mathlib.Core.List.{List, [], _∷_}
 use Prim.Native.Nat.{ℕ, zero, suc, _+_, _*_, _-_, _≤_, _<_}
-use Rattle.whole.specs.Line.{onLine}
+use lib.Dec.{leb}
+use lib.IntN.{ℤ}
+use lib.ListN.{getD}
 use Rattle.whole.specs.Frac.{Frac, frac, _⊕_}
+use Rattle.sign.specs.Sign.{plus, minus}
 use Rattle.stability.specs.declared.Basis.{Basis}
-use Rattle.stability.specs.Angles.{angle, sine, width}
-use Rattle.stability.specs.Arms.{span, fluidKG, spanKM, spanKN}
-use Rattle.stability.specs.Area.{counted, endsAbove}
 
--- the three denominators of an arm: KN is over span, fluid KG × sine over 1,000, the heeling arm over 20,000 × D
-abbrev pub heelDen : Basis → ℕ
-heelDen b = 20000 * b .load .d
+-- ---- the ten angles, in hundredths of a degree, and their sines, in millionths, as printed
+abbrev pub printedAngles : List ℕ
+printedAngles = 0 ∷ 500 ∷ 1000 ∷ 1200 ∷ 1500 ∷ 2000 ∷ 2500 ∷ 3000 ∷ 3500 ∷ 4000 ∷ []
+
+abbrev pub printedSines : List ℕ
+printedSines = 0 ∷ 87156 ∷ 173648 ∷ 207912 ∷ 258819 ∷ 342020 ∷ 422618 ∷ 500000 ∷ 573576 ∷ 642788 ∷ []
+
+unfoldable pub angleOf : ℕ → ℕ
+angleOf k = getD printedAngles k 0
+
+unfoldable pub sineOf : ℕ → ℕ
+sineOf k = getD printedSines k 0
+
+-- ---- the arms
+-- D₂ − D₁
+abbrev pub apart : Basis → ℕ
+apart b = b .high .d - b .low .d
+
+-- the value at D on the straight line from x at D₁ to y at D₂, from mm to µm: this over D₂ − D₁
+abbrev pub atD : Basis → (x y : ℕ) → ℕ
+atD b x y = 1000 * (x * (b .high .d - b .load .d) + y * (b .load .d - b .low .d))
+
+-- KM, and KN at the k-th angle, over D₂ − D₁
+abbrev pub kmOver : Basis → ℕ
+kmOver b = atD b (b .low .km) (b .high .km)
+
+abbrev pub knOver : Basis → ℕ → ℕ
+knOver b k = atD b (getD (b .low .kn) k 0) (getD (b .high .kn) k 0)
+
+-- fluid KG × sine, over 1,000
+abbrev pub kgOver : Basis → ℕ → ℕ
+kgOver b k = (b .load .kg + b .load .fs) * sineOf k
+
+-- the heeling arm, over 20,000 × D
+abbrev pub heelOver : Basis → ℕ → ℕ
+heelOver b k = 1000 * b .weight * (20000 - angleOf k)
 
 -- the one denominator of all arms
 abbrev pub den : Basis → ℕ
-den b = span b * (1000 * heelDen b)
+den b = apart b * (1000 * (20000 * b .load .d))
 
--- over it, at the k-th angle: KN; fluid KG × sine; the heeling arm
+-- over it: KN; and what is taken from it, fluid KG × sine and the heeling arm. Righting less heeling arm is (exactKN − exactTaken)/den.
 abbrev pub exactKN : Basis → ℕ → ℕ
-exactKN b k = spanKN b k * (1000 * heelDen b)
+exactKN b k = knOver b k * (1000 * (20000 * b .load .d))
 
-abbrev pub exactKG : Basis → ℕ → ℕ
-exactKG b k = fluidKG b * sine k * (span b * heelDen b)
-
-abbrev pub exactHeeling : Basis → ℕ → ℕ
-exactHeeling b k = 1000 * b .weight * (20000 - angle k) * (span b * 1000)
-
--- The exact righting arm is (exactKN − exactKG)/den, the exact heeling arm exactHeeling/den. What both take from KN: righting less
--- heeling is (exactKN − exactTaken)/den.
 abbrev pub exactTaken : Basis → ℕ → ℕ
-exactTaken b k = exactKG b k + exactHeeling b k
+exactTaken b k = kgOver b k * (apart b * (20000 * b .load .d)) + heelOver b k * (apart b * 1000)
 
+-- ---- angles between the ten
 -- An angle on the i-th stretch is n/k, with angle i ≤ n/k ≤ angle (i + 1).
 pub record OnStretch (i n k : ℕ) : Type 0 where
   pub scale : 0 < k
-  pub from : angle i * k ≤ n
-  pub to : n ≤ angle (suc i) * k
+  pub from : angleOf i * k ≤ n
+  pub to : n ≤ angleOf (suc i) * k
 
 -- some stretch of the nine holds the angle n/k
 pub record Lies (n k : ℕ) : Type 0 where
@@ -47,28 +76,76 @@ pub record Lies (n k : ℕ) : Type 0 where
 abbrev pub EveryAngle : Type 0
 EveryAngle = (n k : ℕ) → 0 < k → n ≤ 4000 * k → Lies n k
 
--- width i × k times the value at n/k on the straight line of the i-th stretch
+-- the width of the i-th stretch
+abbrev pub wide : ℕ → ℕ
+wide i = angleOf (suc i) - angleOf i
+
+-- the value at n/k on the straight line of the i-th stretch, whose ends are f i and f (i + 1): this over wide i × k
 abbrev pub along : (ℕ → ℕ) → (i n k : ℕ) → ℕ
-along f i n k = onLine (width i * k) (n - angle i * k) (f i) (f (suc i))
+along f i n k = f i * (angleOf (suc i) * k - n) + f (suc i) * (n - angleOf i * k)
 
--- at n/k the exact righting arm is not below the exact heeling arm
-abbrev pub RightingNotBelow : Basis → (i n k : ℕ) → Type 0
-RightingNotBelow b i n k = along (exactTaken b) i n k ≤ along (exactKN b) i n k
+-- ---- the exact righting arm less the exact heeling arm: (rights − takes)/over
+pub record Exact : Type 0 where
+  pub rights : ℕ
+  pub takes : ℕ
+  pub over : ℕ
 
--- at n/k the exact righting arm exceeds the exact heeling arm, if at all, by less than w
-abbrev pub RightingExceedsLess : Basis → (w i n k : ℕ) → Type 0
-RightingExceedsLess b w i n k = along (exactKN b) i n k < along (exactTaken b) i n k + w * (width i * k * den b)
+-- at the k-th of the ten angles
+abbrev pub exactTen : Basis → ℕ → Exact
+exactTen b k = record { rights = exactKN b k; takes = exactTaken b k; over = den b }
 
--- the exact GM, (spanKM − 1,000 × fluidKG × span)/span, is below c: multiplied out by span
+-- at n/k on the i-th stretch
+abbrev pub exactAt : Basis → (i n k : ℕ) → Exact
+exactAt b i n k =
+    record { rights = along (exactKN b) i n k; takes = along (exactTaken b) i n k; over = wide i * k * den b }
+
+-- it is not below zero: the exact righting arm is not below the exact heeling arm
+abbrev pub NotBelow : Exact → Type 0
+NotBelow e = e .takes ≤ e .rights
+
+-- it is less than w
+abbrev pub LessThan : ℕ → Exact → Type 0
+LessThan w e = e .rights < e .takes + w * e .over
+
+-- it is not below z; it is less than z + w
+abbrev pub NotUnder : ℤ → Exact → Type 0
+NotUnder z e = plus z * e .over + e .takes ≤ e .rights + minus z * e .over
+
+abbrev pub LessOver : ℤ → ℕ → Exact → Type 0
+LessOver z w e = e .rights + minus z * e .over < (plus z + w) * e .over + e .takes
+
+-- the exact GM, (kmOver − 1,000 × (KG + FS) × (D₂ − D₁))/(D₂ − D₁), is below c
 abbrev pub ExactGMBelow : Basis → ℕ → Type 0
-ExactGMBelow b c = spanKM b < 1000 * fluidKG b * span b + c * span b
+ExactGMBelow b c = kmOver b < 1000 * (b .load .kg + b .load .fs) * apart b + c * apart b
 
--- the exact area above zero of the stretch behind the k-th angle, up to u: the formula of AREA with no rounding
+-- ---- the area above zero
+-- how far a stretch from a to c counts: nothing where u is not above a, all of it where u is not below c, else up to u
+abbrev pub upTo : (u a c : ℕ) → ℕ
+upTo u a c = cond (leb u a) 0 (cond (leb c u) (c - a) (u - a))
+
+-- over a breadth t, with the heights u₁/s and u₂/s at its ends, both not below zero: a trapezium
+abbrev pub trapezium : (t s u₁ u₂ : ℕ) → Frac
+trapezium t s u₁ u₂ = frac (t * (u₁ + u₂)) (2 * s)
+
+-- with one end u/s above zero and the other v/s below: a triangle, whose base is the part u/(u + v) of t
+abbrev pub triangle : (t s u v : ℕ) → Frac
+triangle t s u v = frac (t * u * u) (2 * s * (u + v))
+
+-- over a breadth t, the area above zero under the straight line from (p₁ − m₁)/s to (p₂ − m₂)/s: both ends not below zero; falling
+-- through zero; rising through zero; both below
+unfoldable pub aboveZero : (t s p₁ m₁ p₂ m₂ : ℕ) → Frac
+aboveZero t s p₁ m₁ p₂ m₂ =
+    cond (leb m₁ p₁)
+    (cond (leb m₂ p₂) (trapezium t s (p₁ - m₁) (p₂ - m₂)) (triangle t s (p₁ - m₁) (m₂ - p₂)))
+    (cond (leb m₂ p₂) (triangle t s (p₂ - m₂) (m₁ - p₁)) (frac 0 1))
+
+-- the stretch behind the k-th angle, up to u, of the line whose value at the k-th angle is (p k − m k)/q. At h × q times their size, with
+-- h the width and t what counts of it, the ends are h × p k − h × m k and the point at t of h.
 abbrev pub exactStretch : (q : ℕ) (p m : ℕ → ℕ) (u k : ℕ) → Frac
 exactStretch q p m u k =
-    let U = endsAbove (width k) (counted u k) (p k) (m k) (p (suc k)) (m (suc k)) in
-    let N = endsAbove (width k) (counted u k) (m k) (p k) (m (suc k)) (p (suc k)) in
-    frac (counted u k * U * U) (2 * (width k * q) * (U + N))
+    let h = wide k in
+    let t = upTo u (angleOf k) (angleOf (suc k)) in
+    aboveZero t (h * q) (h * p k) (h * m k) (p k * (h - t) + p (suc k) * t) (m k * (h - t) + m (suc k) * t)
 
 -- the first n stretches, added up
 unfoldable pub exactOver : (q : ℕ) (p m : ℕ → ℕ) (u n : ℕ) → Frac

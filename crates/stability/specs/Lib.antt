@@ -3,5 +3,7 @@ pub mod Arms
 pub mod Area
 pub mod Verdict
 pub mod Exact
+pub mod Figures
 pub mod Demand
+pub mod Margins
 pub mod Walk

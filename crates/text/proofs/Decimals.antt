@@ -7,26 +7,15 @@ use native.Mathlib.Omega.{arith}
 use lib.Dec.{eqb, leb}
 use lib.ListN.{length, getD, length-append, List·getD-append}
 use borrow.Author.Tests.{eqb-false, le-leb, leb-true, not-true}
-use Rattle.whole.specs.Lists.{within, all}
-use Rattle.whole.proofs.Lists.{and-true, within-true}
+use Rattle.whole.specs.Lists.{all}
+use Rattle.whole.proofs.Lists.{and-true, within-true, within-by, all-append}
 use Rattle.text.specs.Token.{isDigit, valueFrom, value, needlessZero, isNumber}
-use Rattle.text.specs.Codes.{Decimal, one, more}
+use Rattle.whole.specs.Decimal.{Decimal, one, more}
 use Rattle.text.proofs.Numbers.{needless}
-
--- a test of every entry, of two lists
-pub all-append : {A : Type 0} (f : A → Bool) (a b : List A) → all f (a ++ b) ≡ (all f a && all f b)
-unfolding all
-all-append f [] b = refl
-all-append f (x ∷ a) b = rw (all-append f a b) (joined (f x) (all f a) (all f b))
-  where
-    joined : (x y z : Bool) → (x && (y && z)) ≡ (x && y && z)
-    joined true y z = refl
-    joined false y z = refl
 
 -- ---- digits say their number
 digit-true : (d : ℕ) → d < 10 → isDigit (48 + d) ≡ true
-unfolding within
-digit-true d h = rw (le-leb 48 (48 + d) (omega arith), le-leb (48 + d) 57 (omega arith))
+digit-true d h = within-by 48 57 (48 + d) (omega arith) (omega arith)
 
 value-last : (v : ℕ) (r : List ℕ) (b : ℕ) → valueFrom v (r ++ (b ∷ [])) ≡ 10 * valueFrom v r + (b - 48)
 unfolding valueFrom

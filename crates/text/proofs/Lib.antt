@@ -7,3 +7,4 @@ pub mod Forms
 pub mod Decimals
 pub mod Words
 pub mod Codes
+pub mod Spaces

@@ -5,24 +5,20 @@ use mathlib.Core.List.{List, [], _∷_, _++_, append-assoc, append-nil}
 use Prim.Native.Nat.{ℕ, zero, suc, _+_, _-_, _≤_, _<_}
 use native.Mathlib.Decide.{decLt}
 use native.Mathlib.Omega.{arith}
-use lib.Dec.{eqb, leb}
-use lib.ListN.{length, getD, take, drop, length-append, length-drop, length-take, take-append-drop, List·getD-append}
+use lib.Dec.{eqb}
+use lib.ListN.{length, getD, take, drop, length-append, length-drop, take-append-drop, List·getD-append}
 use lib.Seq.{getD-append-add, length-take-le, take-length, drop-length}
-use borrow.Author.Tests.{le-leb, leb-false}
-use Rattle.whole.specs.Lists.{within, all}
-use Rattle.whole.proofs.Lists.{and-true, and-false, within-true, all-at}
+use Rattle.whole.specs.Lists.{all}
+use Rattle.whole.specs.Decimal.{Decimal}
+use Rattle.whole.proofs.Lists.{and-false, within-true, within-by, all-append, all-at}
 use Rattle.text.specs.Token.{Token, opened, closed, run, isLetter, isDigit, inRun, startsRun, glue, tokens, isNumber}
 use Rattle.text.specs.Line.{numberIfDigit, soundToken}
 use Rattle.text.specs.Places.{runLength}
-use Rattle.text.specs.Codes.{LetterOrDigit, letter, digit, Decimal, Run, NoNumber}
+use Rattle.text.specs.Codes.{LetterOrDigit, letter, digit, Run, NoNumber}
 use Rattle.text.proofs.Runs.{run-token, run-within, sound, one-other, starts, one-long}
-use Rattle.text.proofs.Decimals.{all-append, decimal-number, number-decimal}
+use Rattle.text.proofs.Decimals.{decimal-number, number-decimal}
 
 -- ---- letters and digits
-within-by : (lo hi b : ℕ) → lo ≤ b → b ≤ hi → within lo hi b ≡ true
-unfolding within
-within-by lo hi b p q = rw (le-leb lo b p, le-leb b hi q)
-
 or-right : (x : Bool) → (x || true) ≡ true
 or-right true = refl
 or-right false = refl
@@ -43,7 +39,7 @@ no-run b e l =
     let z : _≡_ {A = ℕ} 0 1 = cc (in-run l) in omega arith
 
 -- ---- the tokens of two pieces that no run joins
-ends : List ℕ → Bool
+unfoldable pub ends : List ℕ → Bool
 ends [] = false
 ends (x ∷ []) = inRun x
 ends (x ∷ y ∷ s) = ends (y ∷ s)

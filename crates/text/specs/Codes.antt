@@ -3,8 +3,9 @@
 use mathlib.Core.Path.{_≡_}
 use mathlib.Core.List.{List, [], _∷_, _++_}
 use mathlib.Core.Logic.{_↔_}
-use Prim.Native.Nat.{ℕ, suc, _+_, _*_, _-_, _≤_, _<_}
+use Prim.Native.Nat.{ℕ, suc, _-_, _≤_, _<_}
 use lib.ListN.{length, getD, replicate}
+use Rattle.whole.specs.Decimal.{Decimal}
 
 -- a letter, a to z, or a digit, 0 to 9
 pub data LetterOrDigit (b : ℕ) : Type 0 where
@@ -42,11 +43,6 @@ pub record OneForm (n : ℕ) (s : List ℕ) : Type 0 where
   pub behind : ℕ
   pub is : Form n written
   pub line : s ≡ replicate before 32 ++ (written ++ replicate behind 32)
-
--- the decimal digits of a number, without needless leading zeros
-pub data Decimal : ℕ → List ℕ → Type 0 where
-  one : {d : ℕ} → d < 10 → Decimal d ((48 + d) ∷ [])
-  more : {n d : ℕ} {r : List ℕ} → 0 < n → d < 10 → Decimal n r → Decimal (10 * n + d) (r ++ (48 + d) ∷ [])
 
 -- r is a run of the line s: a longest stretch of letters and digits
 pub record Run (s r : List ℕ) : Type 0 where

@@ -1,6 +1,7 @@
 use mathlib.Core.Path.{refl, sym, _∙_, ap}
 use Rattle.text.specs.Line.{readingOf, readingCode}
-use Rattle.panel.proofs.Answers.{heard-down, line-sound}
+use Rattle.panel.proofs.Asked.{line-sound}
+use Rattle.panel.proofs.Answers.{heard-down}
 use borrow.Author.Needs.{needs}
 use Rattle.panel.proofs.hear.Statement.{statement}
 use Rattle.panel.proofs.hear.Tie as tie

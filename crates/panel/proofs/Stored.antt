@@ -1,18 +1,19 @@
--- Demand 1: a line is taken exactly where it passes its tests, what it brings is stored, and its reply shows the code. Demand 2: a
--- line means what its runs and brackets say.
+-- Demand 1: what a line that is taken brings is stored, and its reply shows the code.
 use mathlib.Core.Path.{_≡_, refl, sym, ap, _∙_}
 use mathlib.Core.Bool.{true}
 use mathlib.Core.List.{List, [], _∷_, _++_}
-use mathlib.Core.Logic.{_↔_}
-use Prim.Native.Nat.{ℕ, _≤_}
+use Prim.Native.Nat.{ℕ, _-_, _≤_}
 use native.Mathlib.Omega.{arith}
-use lib.ListN.{length, length-take}
-use borrow.Author.Tests.{lt-ltb}
+use lib.ListN.{length, getD, length-take, getD-replicate}
+use lib.Seq.{getD-set-same, getD-set-other}
+use Rattle.record.specs.declared.Ship.{Ship}
+use Rattle.record.specs.declared.Load.{Load}
 use Rattle.record.specs.declared.Column.{Column}
 use Rattle.record.specs.declared.Hold.{Hold}
 use Rattle.record.specs.Held.{held}
+use Rattle.record.specs.Filler.{noHold}
+use Rattle.limits.proofs.Ranges.{place-range}
 use Rattle.columns.specs.Columns.{withColumn}
-use Rattle.columns.proofs.Adding.{answer-above}
 use Rattle.stability.specs.declared.Judgement.{Judgement}
 use Rattle.stability.specs.declared.Judgement.the-variants.{Passed, ShortOfGm, ShortAtHeel, ShortBeyond, ShortOfArea}
 use Rattle.stability.specs.Verdict.{judgementCode, verdictOf}
@@ -22,22 +23,38 @@ use Rattle.text.specs.Line.{readingOf}
 use Rattle.request.specs.declared.Kind.{Kind}
 use Rattle.request.specs.declared.Kind.the-variants.{ShipLine, ColumnLine, LoadLine, HoldLine, DropLine, JudgeLine, ClearLine, NoShape}
 use Rattle.reply.specs.Replies.{answerReply}
+use Rattle.reply.proofs.Shown.{answer-shown, refusal-shown, verdict-shown}
 use Rattle.condition.specs.declared.Condition.{Condition}
+use Rattle.condition.specs.Condition.{empty, withShip, withLoad, withColumns, withHold}
 use Rattle.panel.specs.declared.Judged.{Judged}
-use Rattle.condition.specs.Condition.{withColumns}
-use Rattle.panel.specs.Operations.{Change}
 use Rattle.panel.specs.Judge.{basisAt, judgedOf}
 use Rattle.panel.specs.Step.{Outcome, verdictGiven, outcomeBy, stepOf}
-use Rattle.panel.specs.Demands.{request, Asks, isOneOf, TakenWhere, TakenExactly, Stores, RecordsAreStored, JudgeShows, refusal, verdict, RepliesShowTheCode, SameTokensSameOutcome}
+use Rattle.panel.specs.Codes.{request, Asks}
+use Rattle.panel.specs.Demands.{isOneOf, OtherPlaces, Nothing, Stores, RecordsAreStored, StartsEmpty, JudgeShows, refusal, verdict, RepliesShowTheCode}
 use Rattle.panel.proofs.Shown.{judged-by}
 use Rattle.panel.proofs.Taking.{taken-is}
-use Rattle.panel.proofs.Asked.{at-reading, hears, asked, code-of, taken-asks, taken-as}
-use Rattle.panel.proofs.Effects.{ship-passed, ship-taken, ship-effect, load-passed, load-taken, load-effect, column-passed, column-taken, column-effect, hold-passed, hold-taken, hold-effect, drop-passed, drop-taken, drop-effect, judge-same}
+use Rattle.panel.proofs.Asked.{none-applies, short, at-reading, hears, asked, taken-as}
+use Rattle.panel.proofs.Effects.{ship-effect, load-effect, column-passed, column-effect, hold-passed, hold-effect, drop-passed, drop-effect, judge-same}
 use Rattle.panel.proofs.Sequence.{held-more}
 
--- an operation that is taken has the code 00
-coded : {a b : Change} → a ≡ b → a .code ≡ b .code
-coded e = ap (λ (t : Change). t .code) e
+-- ---- the condition at the start
+pub starts-empty : StartsEmpty
+starts-empty =
+    record {
+      ship = refl;
+      load = refl;
+      columns = refl;
+      holds = λ n p q. ap (λ (h : Hold). h .head .count) (getD-replicate 16 (n - 1) noHold noHold (omega arith));
+    }
+
+-- ---- a hold put in a place of the sixteen
+module _ (c : Condition) (n : ℕ) (h : Hold) where
+  at-place : length (c .holds) ≡ 16 → (1 ≤ n) × (n ≤ 16) → getD (withHold c n h .holds) (n - 1) noHold ≡ h
+  at-place long p = getD-set-same (c .holds) (n - 1) h noHold (omega (arith, p .0, p .1))
+
+  other-places : (1 ≤ n) × (n ≤ 16) → OtherPlaces n c (withHold c n h)
+  other-places p m low high other =
+      getD-set-other (c .holds) (n - 1) (m - 1) h noHold (λ e. other (omega (arith, p .0)))
 
 module _ (c : Condition) (line : List ℕ) (lent : ℕ) where
   abbrev hold : Hold
@@ -45,30 +62,6 @@ module _ (c : Condition) (line : List ℕ) (lent : ℕ) where
 
   abbrev column : Column
   column = request line .column
-
-  -- ---- taken exactly where the tests pass
-  -- what is said of the request's own code is said of the line's
-  exactly : {P : Type 0} (k : Kind) → Asks line lent k → (outcomeBy c k hold column .code ≡ 0 → P) → (P → outcomeBy c k hold column .code ≡ 0) → (stepOf c line lent .code ≡ 0) ↔ P
-  exactly k a to from = (λ e. to (sym (code-of c line lent k a) ∙ e), λ p. code-of c line lent k a ∙ from p)
-
-  taken-where : TakenWhere c line lent
-  taken-where =
-      record {
-        ship = λ s a. exactly (ShipLine s) a (ship-passed c s) (λ e. coded (ship-taken c s e));
-        load = λ l a. exactly (LoadLine l) a (load-passed c l) (λ e. coded (load-taken c l e));
-        column = λ a.
-            exactly ColumnLine a
-            (λ e. let p = taken-is (held (c .columns)) column (column-passed c column e) in (p .limits, p .below, p .above))
-            (λ (l, b, u). coded (column-taken c column (sym (answer-above (held (c .columns)) column l true b u))));
-        hold = λ n a.
-            exactly (HoldLine n) a
-            (λ e. let p = hold-passed c n hold e in (p .place, p .limits, p .fits))
-            (λ (p, l, f). coded (hold-taken c n hold (record { place = p; limits = l; fits = f })));
-        drop = λ n a. exactly (DropLine n) a (drop-passed c n) (λ (p, h). coded (drop-taken c n p h));
-        clear = λ a. code-of c line lent ClearLine a;
-        noShape = λ a. code-of c line lent NoShape a;
-        noOther = taken-asks c line lent (request line .kind) refl;
-      }
 
   -- ---- what is stored
   module _ (zero : stepOf c line lent .code ≡ 0) where
@@ -87,23 +80,39 @@ module _ (c : Condition) (line : List ℕ) (lent : ℕ) where
       column-after : stepOf c line lent .after ≡ withColumns c (withColumn (c .columns) column)
       column-after = after ColumnLine e ∙ sym (column-effect c column (own ColumnLine e))
 
-      column-last : length (c .columns .places) ≡ 20 → held (stepOf c line lent .after .columns) ≡ held (c .columns) ++ column ∷ []
+      column-last : length (c .columns .places) ≡ 20 → held (withColumn (c .columns) column) ≡ held (c .columns) ++ column ∷ []
       column-last long =
           let t = column-passed c column (own ColumnLine e) in
           let b = taken-is (held (c .columns)) column t .below in
           let n = length-take (c .columns .count) (c .columns .places) in
-          rw column-after (held-more (c .columns) column (record { places = long; count = omega arith }) t)
+          held-more (c .columns) column (record { places = long; count = omega arith }) t
 
-    stores : Stores c line lent
+    ship-after : (s : Ship) → request line .kind ≡ ShipLine s → stepOf c line lent .after ≡ withShip c s
+    ship-after s e = after (ShipLine s) e ∙ sym (ship-effect c s (own (ShipLine s) e))
+
+    load-after : (l : Load) → request line .kind ≡ LoadLine l → stepOf c line lent .after ≡ withLoad c l
+    load-after l e = after (LoadLine l) e ∙ sym (load-effect c l (own (LoadLine l) e))
+
+    hold-after : (n : ℕ) → request line .kind ≡ HoldLine n → stepOf c line lent .after ≡ withHold c n hold
+    hold-after n e = after (HoldLine n) e ∙ sym (hold-effect c n hold (own (HoldLine n) e))
+
+    drop-after : (n : ℕ) → request line .kind ≡ DropLine n → stepOf c line lent .after ≡ withHold c n noHold
+    drop-after n e = after (DropLine n) e ∙ sym (drop-effect c n (own (DropLine n) e))
+
+    stores : Stores c line (stepOf c line lent .after)
     stores =
         record {
-          ship = λ s e. after (ShipLine s) e ∙ sym (ship-effect c s (own (ShipLine s) e));
-          load = λ l e. after (LoadLine l) e ∙ sym (load-effect c l (own (LoadLine l) e));
-          column = λ e. rw (column-after e);
-          lastColumn = column-last;
-          hold = λ n e. after (HoldLine n) e ∙ sym (hold-effect c n hold (own (HoldLine n) e));
-          drop = λ n e. after (DropLine n) e ∙ sym (drop-effect c n (own (DropLine n) e));
+          ship = λ s e. rw (ship-after s e) (refl, refl, (refl, refl), refl, refl);
+          load = λ l e. rw (load-after l e) (refl, refl, (refl, refl), refl, refl);
+          column = λ e long. rw (column-after e) (column-last e long, (refl, refl), (refl, refl), refl);
+          hold = λ n e long.
+              let p = place-range n .0 (hold-passed c n hold (own (HoldLine n) e) .place) in
+              rw (hold-after n e) (at-place c n hold long p, other-places c n hold p, (refl, refl), (refl, refl), refl);
+          drop = λ n e long.
+              let p = place-range n .0 (drop-passed c n (own (DropLine n) e) .0) in
+              rw (drop-after n e) (ap (λ (h : Hold). h .head .count) (at-place c n noHold long p), other-places c n noHold p, (refl, refl), (refl, refl), refl);
           judge = λ e. after JudgeLine e ∙ judge-same c (judgedOf c);
+          clear = λ e. rw (after ClearLine e) starts-empty;
         }
 
   -- ---- the reply of every line but a judge line
@@ -117,7 +126,7 @@ module _ (c : Condition) (line : List ℕ) (lent : ℕ) where
     answered-kind s (LoadLine l) e = refl
     answered-kind s (HoldLine n) e = refl
     answered-kind s (DropLine n) e = refl
-    answered-kind s JudgeLine e = absurd (other (record { room = room; sound = s; asked = e }))
+    answered-kind s JudgeLine e = absurd (other (record { room = room; sound = none-applies line s; asked = e }))
     answered-kind s ClearLine e = refl
     answered-kind s NoShape e = refl
 
@@ -139,25 +148,17 @@ five ShortOfArea = refl
 
 judge-shows : (c : Condition) → JudgeShows (verdictGiven c (judgedOf c))
 judge-shows c =
-    judged-by c (λ (j : Judged). JudgeShows (verdictGiven c j)) (λ n e. refusal e refl)
-    (λ i. let v = verdictOf (c .ship) (basisAt c i) in verdict (five (v .judgement)) v refl)
+    judged-by c (λ (j : Judged). JudgeShows (verdictGiven c j)) (λ n e. refusal e (refusal-shown n))
+    (λ i. let v = verdictOf (c .ship) (basisAt c i) in verdict (five (v .judgement)) v (λ w. verdict-shown _ (v .gm) (v .diff) (v .upper) (v .area) w))
 
 -- ---- all of them
-pub taken-exactly : TakenExactly
-taken-exactly = taken-where
-
 pub records-are-stored : RecordsAreStored
 records-are-stored = stores
 
 pub replies-show-the-code : RepliesShowTheCode
-unfolding stepOf
 replies-show-the-code c line lent =
     record {
-      short = λ h. rw (lt-ltb lent 96 h) (refl, refl);
+      short = λ h. rw (short c line lent h);
       judge = λ a. rw (asked c line lent JudgeLine a) (judge-shows c);
-      other = λ room other. answered-by c line lent room other (readingOf line) refl;
+      other = λ room other. rw (answered-by c line lent room other (readingOf line) refl) (answer-shown (stepOf c line lent .code));
     }
-
-pub same-tokens-same-outcome : SameTokensSameOutcome
-unfolding stepOf
-same-tokens-same-outcome c a b lent p q e = rw (p, q, e)

@@ -1,0 +1,263 @@
+-- The definitions give the figures of a hold that the paper's words ask for.
+use mathlib.Core.Path.{_≡_, refl, sym, ap, ap₂, _∙_}
+use mathlib.Core.Bool.{true}
+use mathlib.Core.List.{List, [], _∷_}
+use mathlib.Core.Logic.{_↔_}
+use Prim.Native.Nat.{ℕ, zero, suc, _+_, _*_, _-_, _/_, _%_, _≤_, _<_, min, max}
+use native.Mathlib.Nat.{lt-of-not-le}
+use native.Mathlib.Decide.{decLe}
+use native.Mathlib.Omega.{arith}
+use lib.Dec.{leb}
+use lib.ListN.{length, getD, length-take}
+use borrow.Author.Tests.{leb-true, le-leb}
+use Rattle.whole.specs.Divide.{ceilDiv}
+use Rattle.whole.specs.Lists.{all, sumOf}
+use Rattle.whole.proofs.Lists.{all-at, all-from}
+use Rattle.whole.proofs.Dividing.{ceil-low, ceil-high}
+use Rattle.record.specs.declared.Mode.{Mode}
+use Rattle.record.specs.declared.Mode.the-variants.{Trimmed, Voided, Partial}
+use Rattle.record.specs.declared.Cell.{Cell}
+use Rattle.record.specs.declared.Cell.the-variants.{Wing, Hatch, Void}
+use Rattle.record.specs.declared.Part.{Part}
+use Rattle.record.specs.declared.Hold.{Hold}
+use Rattle.record.specs.Filler.{noPart}
+use Rattle.record.specs.Held.{cellWidth, cellLip, cellsOf, partsOf}
+use Rattle.limits.specs.Limits.{partLimits, holdLimits}
+use Rattle.grain.specs.Depth.{standardDepth, wingDepth, cellDepth, cellArea}
+use Rattle.grain.specs.Section.{mostHeld, cellMost, kept, keptOf, fits, fitsFrom, sectionMoment}
+use Rattle.grain.specs.Slack.{slackMoment}
+use Rattle.grain.specs.Sum.{partSection, partMoment, percentage, holdMoment, weightMoment, partFits, holdFits}
+use Rattle.grain.specs.Within.{SectionWithin}
+use Rattle.grain.specs.Figures.{total, RoundedUp, printedDistances, StandardDepth, WingDepth, CellArea, MostHeld, cell, KeptAreas, Fits, SectionMoment, PartFits, HoldFits, PartSection, percent, part, WeightMoment}
+use Rattle.grain.proofs.Depths.{distance-is, below-first, above-last, interpolates}
+use Rattle.grain.proofs.Sections.{most-triangle, most-trapezium, most-taken, kept-sum, kept-length}
+use Rattle.grain.proofs.Walks.{part-within, cells-section}
+use Rattle.grain.proofs.Weights.{HoldWithin, hold-within}
+use Rattle.grain.proofs.Totals.{total-same, sum-total, keptAt, kept-at, fits-last, highs, olds}
+use Rattle.grain.proofs.Accuracy.{bounds, firstFrom, firstTo, every-scale}
+
+-- ---- depths and areas
+standard : (x : ℕ) → StandardDepth x (standardDepth x)
+standard x =
+    record {
+      below = λ h. sym (below-first x h);
+      between = λ k t h l e. rw e (interpolates k t h l);
+      above = λ t e. omega (arith, above-last x (omega arith));
+    }
+
+wing : (dist girder : ℕ) → WingDepth dist girder (wingDepth dist girder)
+unfolding wingDepth
+wing dist girder =
+    record {
+      standard = standardDepth dist;
+      is = standard dist;
+      least = omega arith;
+      notBelow = omega arith;
+      notAbove = λ h. omega arith;
+    }
+
+area-is : (c : Cell) → CellArea c (cellArea c)
+unfolding cellArea cellDepth
+area-is (Wing w d g l) = (wingDepth d g, wing d g, refl)
+area-is (Hatch w o l) = refl
+area-is (Void w d l) = refl
+
+-- ---- what a cell can hold
+most-is : (w g : ℕ) → MostHeld w g (mostHeld w g)
+most-is w g =
+    record {
+      low = λ h. let e = most-triangle w g h in (omega arith, omega arith);
+      high = λ h. let e = most-trapezium w g h in let t = most-taken w g h in (omega arith, omega arith);
+    }
+
+-- ---- kept areas
+kept-together : (c : Cell) (cs : List Cell) → total (length (c ∷ cs)) (keptAt (keptOf (c ∷ cs))) ≡ total (length (c ∷ cs)) (λ i. cellArea (cell (c ∷ cs) i))
+kept-together c cs =
+    let s : sumOf (λ k. k .area) (keptOf (c ∷ cs)) ≡ sumOf cellArea (c ∷ cs) = omega (arith, kept-sum 0 c cs) in
+    ap (λ (n : ℕ). total n (keptAt (keptOf (c ∷ cs)))) (sym (kept-length 0 (c ∷ cs)))
+    ∙ sym (sum-total (λ k. k .area) (keptOf (c ∷ cs)) (kept 0 0))
+    ∙ s
+    ∙ sum-total cellArea (c ∷ cs) (Void 0 0 0)
+
+-- the areas and kept areas of a section that has a cell
+kept-areas : (c : Cell) (cs : List Cell) → KeptAreas (c ∷ cs)
+kept-areas c cs =
+    record {
+      area = λ i. cellArea (cell (c ∷ cs) i);
+      kept = keptAt (keptOf (c ∷ cs));
+      areas = λ i h. area-is (cell (c ∷ cs) i);
+      inner = λ i h. (cellMost (cell (c ∷ cs) i), most-is (cellWidth (cell (c ∷ cs) i)) (cellLip (cell (c ∷ cs) i)), kept-at 0 (c ∷ cs) i h);
+      together = kept-together c cs;
+    }
+
+-- ---- 21 by the last cell
+module _ (c : Cell) (cs : List Cell) where
+  last : length (c ∷ cs) - 1 ≡ length cs
+  last = omega arith
+
+  last-test : fits (c ∷ cs) ≡ leb (keptAt (keptOf (c ∷ cs)) (length (c ∷ cs) - 1)) (cellMost (cell (c ∷ cs) (length (c ∷ cs) - 1)))
+  last-test = rw last (fits-last 0 c cs)
+
+no-cells : KeptAreas []
+unfolding total
+no-cells = record { area = λ i. 0; kept = λ i. 0; areas = λ i h. absurd (omega arith); inner = λ i h. absurd (omega arith); together = refl }
+
+fits-to : (cs : List Cell) → fits cs ≡ true → Fits cs
+unfolding kept-areas no-cells
+fits-to [] e = record { areas = no-cells; most = _; is = most-is 0 0; holds = omega arith }
+fits-to (c ∷ cs) e =
+    record {
+      areas = kept-areas c cs;
+      most = _;
+      is = most-is (cellWidth (cell (c ∷ cs) (length (c ∷ cs) - 1))) (cellLip (cell (c ∷ cs) (length (c ∷ cs) - 1)));
+      holds = leb-true _ _ (sym (last-test c cs) ∙ e);
+    }
+
+-- ---- and no other figures meet the paper's words
+standard-only : (x d : ℕ) → StandardDepth x d → d ≡ standardDepth x
+standard-only x d s = by (decLe 500 x) (decLe 8000 x)
+  where
+    by : Dec (500 ≤ x) → Dec (8000 ≤ x) → d ≡ standardDepth x
+    by (no f) e = let h : x < 500 = lt-of-not-le f in s .below h ∙ below-first x h
+    by (yes f) (yes e) = omega (arith, s .above (x - 8000) (omega arith), above-last x e)
+    by (yes f) (no e) =
+        let k : x / 500 - 1 < 15 = omega (arith, lt-of-not-le e) in
+        let p : x ≡ getD printedDistances (x / 500 - 1) 0 + x % 500 = omega (arith, distance-is (x / 500 - 1) (omega arith)) in
+        s .between (x / 500 - 1) (x % 500) k (omega arith) p ∙ sym (ap standardDepth p ∙ interpolates (x / 500 - 1) (x % 500) k (omega arith))
+
+wing-only : (dist girder depth : ℕ) → WingDepth dist girder depth → depth ≡ wingDepth dist girder
+unfolding wingDepth
+wing-only dist girder depth w =
+    let e = standard-only dist (w .standard) (w .is) in
+    by (decLe depth 100) e
+  where
+    by : Dec (depth ≤ 100) → w .standard ≡ standardDepth dist → depth ≡ ceilDiv (max (500 * 100) (standardDepth dist + 375 * girder - 375 * 600)) 500
+    by (yes l) e = omega (arith, w .least, w .notBelow)
+    by (no n) e = omega (arith, w .notBelow, w .notAbove (lt-of-not-le n))
+
+area-only : (c : Cell) (a : ℕ) → CellArea c a → a ≡ cellArea c
+unfolding cellArea cellDepth
+area-only (Wing w d g l) a (depth, is, e) = e ∙ ap (λ (n : ℕ). w * n) (wing-only d g depth is)
+area-only (Hatch w o l) a e = e
+area-only (Void w d l) a e = e
+
+most-only : (w g m : ℕ) → MostHeld w g m → m ≡ mostHeld w g
+most-only w g m s = by (decLe (100000 * g) (26795 * w))
+  where
+    by : Dec (100000 * g ≤ 26795 * w) → m ≡ mostHeld w g
+    by (yes h) = let t = s .low h in omega (arith, t .0, t .1, most-triangle w g h)
+    by (no f) =
+        let h = lt-of-not-le f in
+        let t = s .high h in
+        omega (arith, t .0, t .1, most-trapezium w g h, most-taken w g h)
+
+-- of two sums that are alike but for the last entry
+last-same : (n : ℕ) (f g : ℕ → ℕ) → ((i : ℕ) → i < n → f i ≡ g i) → total (suc n) f ≡ total (suc n) g → f n ≡ g n
+unfolding total
+last-same zero f g e t = omega arith
+last-same (suc n) f g e t =
+    last-same n (λ i. f (suc i)) (λ i. g (suc i)) (λ i h. e (suc i) (omega arith)) (omega (arith, e 0 (omega arith)))
+
+module _ (c : Cell) (cs : List Cell) (k : KeptAreas (c ∷ cs)) where
+  inner-only : (i : ℕ) → i < length cs → k .kept i ≡ keptAt (keptOf (c ∷ cs)) i
+  inner-only i h =
+      let x = cell (c ∷ cs) i in
+      let t = k .inner i (omega arith) in
+      t .2
+      ∙ ap₂ min (area-only x (k .area i) (k .areas i (omega arith))) (most-only (cellWidth x) (cellLip x) (t .0) (t .1))
+      ∙ sym (kept-at 0 (c ∷ cs) i (omega arith))
+
+  kept-only : k .kept (length cs) ≡ keptAt (keptOf (c ∷ cs)) (length cs)
+  kept-only =
+      last-same (length cs) (k .kept) (keptAt (keptOf (c ∷ cs))) inner-only
+      (k .together
+      ∙ total-same (length (c ∷ cs)) (k .area) (λ i. cellArea (cell (c ∷ cs) i)) (λ i h. area-only (cell (c ∷ cs) i) (k .area i) (k .areas i h))
+      ∙ sym (kept-together c cs))
+
+fits-from : (cs : List Cell) → Fits cs → fits cs ≡ true
+unfolding fitsFrom
+fits-from [] f = refl
+fits-from (c ∷ cs) f =
+    let n = last c cs in
+    let h : f .areas .kept (length cs) ≤ f .most = rw n at (f .holds) in
+    let k = kept-only c cs (f .areas) in
+    let m : f .most ≡ cellMost (cell (c ∷ cs) (length cs)) =
+    most-only _ _ (f .most) (f .is) ∙ ap (λ (i : ℕ). cellMost (cell (c ∷ cs) i)) n in
+    fits-last 0 c cs ∙ le-leb (keptAt (keptOf (c ∷ cs)) (length cs)) (cellMost (cell (c ∷ cs) (length cs))) (omega arith)
+
+pub fits-is : (cs : List Cell) → (fits cs ≡ true) ↔ Fits cs
+fits-is cs = (fits-to cs, fits-from cs)
+
+part-fits : (mode : Mode) (p : Part) → (partFits mode p ≡ true) ↔ PartFits mode p
+part-fits Trimmed p = fits-is (cellsOf p)
+part-fits Voided p = fits-is (cellsOf p)
+part-fits Partial p = (λ e. tt, λ u. refl)
+
+pub hold-fits : (h : Hold) → (holdFits h ≡ true) ↔ HoldFits h
+unfolding holdFits
+hold-fits h = (
+  λ e i l. part-fits (h .head .mode) (getD (partsOf h) i noPart) .0 (all-at (partFits (h .head .mode)) (partsOf h) i noPart e l),
+  λ f. all-from (partFits (h .head .mode)) (partsOf h) noPart (λ i l. part-fits (h .head .mode) (getD (partsOf h) i noPart) .1 (f i l)),
+)
+
+-- ---- the section moment
+pub section-moment : (cs : List Cell) → SectionWithin cs → SectionMoment cs (sectionMoment cs)
+unfolding kept-areas
+section-moment [] w = absurd (omega (arith, w .some))
+section-moment (c ∷ cs) w =
+    record {
+      areas = kept-areas c cs;
+      accurate = λ k pk lo hi f.
+          let b = bounds (c ∷ cs) w k pk lo hi f in
+          record {
+            neverBelow = rw (← highs 0 (c ∷ cs), ← olds (c ∷ cs)) (b .low);
+            neverFar = rw (← highs 0 (c ∷ cs), ← olds (c ∷ cs), ← sum-total cellArea (c ∷ cs) (Void 0 0 0)) (b .high);
+          };
+      scales = λ k pk. (
+        λ i. firstFrom k (cellWidth (cell (c ∷ cs) i)) (keptAt (keptOf (c ∷ cs)) i),
+        λ i. firstTo k (cellWidth (cell (c ∷ cs) i)) (keptAt (keptOf (c ∷ cs)) i),
+        λ i h. every-scale k (cellWidth (cell (c ∷ cs) i)) (keptAt (keptOf (c ∷ cs)) i),
+      );
+    }
+
+-- ---- the sum
+rounded-up : (n d : ℕ) → 0 < d → RoundedUp n d (ceilDiv n d)
+rounded-up n d p = (ceil-low n d p, ceil-high n d p)
+
+slack : (p : Part) → RoundedUp (46631 * (p .breadth * p .breadth * p .breadth)) 1200000 (slackMoment p)
+unfolding slackMoment
+slack p = (omega arith, omega arith)
+
+section-of : (mode : Mode) (p : Part) → partLimits mode p ≡ true → length (p .cells) ≡ 8 → PartSection mode p (partSection mode p)
+section-of Trimmed p e l = section-moment (cellsOf p) (cells-section p (part-within p e) l)
+section-of Voided p e l = section-moment (cellsOf p) (cells-section p (part-within p e) l)
+section-of Partial p e l = slack p
+
+percent-is : (mode : Mode) → percentage mode ≡ percent mode
+percent-is Trimmed = refl
+percent-is Voided = refl
+percent-is Partial = refl
+
+parts-sum : (h : Hold) → length (partsOf h) ≡ h .head .count → percent (h .head .mode) * total (h .head .count) (λ i. partMoment (h .head .mode) (part h i)) ≡ sumOf (partMoment (h .head .mode)) (partsOf h) * percentage (h .head .mode)
+parts-sum h n =
+    let t : sumOf (partMoment (h .head .mode)) (partsOf h) ≡ total (h .head .count) (λ i. partMoment (h .head .mode) (part h i)) =
+    sum-total (partMoment (h .head .mode)) (partsOf h) noPart ∙ ap (λ (k : ℕ). total k (λ i. partMoment (h .head .mode) (part h i))) n in
+    rw (t, percent-is (h .head .mode)) (turned (percent (h .head .mode)) (total (h .head .count) (λ i. partMoment (h .head .mode) (part h i))))
+  where
+    turned : (a b : ℕ) → a * b ≡ b * a
+    turned a b = omega arith
+
+pub weight-moment : (h : Hold) → holdLimits h ≡ true → length (h .parts) ≡ 6 → ((i : ℕ) → i < h .head .count → length (part h i .cells) ≡ 8) → WeightMoment h (weightMoment h)
+unfolding partMoment holdMoment weightMoment
+weight-moment h e six eight =
+    let w = hold-within h e in
+    let n : length (partsOf h) ≡ h .head .count = omega (arith, length-take (h .head .count) (h .parts), w .count) in
+    record {
+      sections = λ i. partSection (h .head .mode) (part h i);
+      parts = λ i. partMoment (h .head .mode) (part h i);
+      moment = holdMoment h;
+      section = λ i l. section-of (h .head .mode) (part h i) (all-at (partLimits (h .head .mode)) (partsOf h) i noPart (w .parts) (omega arith)) (eight i l);
+      rounded = λ i l. rounded-up (partSection (h .head .mode) (part h i) * part h i .length) 1000000000 (omega arith);
+      hold = rw (parts-sum h n) (rounded-up (sumOf (partMoment (h .head .mode)) (partsOf h) * percentage (h .head .mode)) 100 (omega arith));
+      weight = rounded-up (10000 * holdMoment h) (h .head .factor) (omega (arith, w .factor .low));
+    }
