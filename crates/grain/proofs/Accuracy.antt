@@ -24,10 +24,10 @@ use Rattle.grain.proofs.Walks.{section-not-negative}
 use Rattle.grain.proofs.Totals.{keptAt, width-at, highs, olds, sum-total}
 
 -- ---- the whole base r, and the whole part s of k × base
-abbrev Base : (area k r : ℕ) → Type 0
+abbrev pub Base : (area k r : ℕ) → Type 0
 Base area k r = RootAt (200000 * area) 26795 k r
 
-base-one : (a r : ℕ) → IsRoot (200000 * a / 26795) r → Base a 1 r
+pub base-one : (a r : ℕ) → IsRoot (200000 * a / 26795) r → Base a 1 r
 base-one a r h = record { low = omega (arith, h .low); high = omega (arith, h .high) }
 
 module _ (a k r s : ℕ) (pk : 0 < k) (b : Base a 1 r) (c : Base a k s) where
@@ -117,7 +117,7 @@ below k S M F O lo e h = omega (arith, ap (λ x. k * x) e, mul-le-mul-left k (di
 far : (k n A S M F O hi : ℕ) → 0 < k → M + F + O / 2 ≡ S → hi ≤ 1200000 * (k * (F + n)) + 400000 * (k * A) → 1200000 * (k * M) + hi + 600000 * (k * O) < 1200000 * (k * S) + 400000 * (k * A) + 1200000 * (k * (n + 1))
 far k n A S M F O hi pk e h = omega (arith, ap (λ x. k * x) e, mul-lt-mul-of-pos-left (lt-div-mul-add {a = O} {b = 2} (omega arith)) pk)
 
-made : (cs : List Cell) → SectionWithin cs → sectionMoment cs + sumOf firstMoment (keptOf cs) + oldTwice 0 cs / 2 ≡ highMoment 0 (keptOf cs)
+pub made : (cs : List Cell) → SectionWithin cs → sectionMoment cs + sumOf firstMoment (keptOf cs) + oldTwice 0 cs / 2 ≡ highMoment 0 (keptOf cs)
 unfolding sectionMoment
 made cs w = omega (arith, section-not-negative cs w)
 

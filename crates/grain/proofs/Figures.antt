@@ -8,7 +8,7 @@ use native.Mathlib.Nat.{lt-of-not-le}
 use native.Mathlib.Decide.{decLe}
 use native.Mathlib.Omega.{arith}
 use lib.Dec.{leb}
-use lib.ListN.{length, getD, length-take}
+use lib.ListN.{length, getD}
 use borrow.Author.Tests.{leb-true, le-leb}
 use Rattle.whole.specs.Divide.{ceilDiv}
 use Rattle.whole.specs.Lists.{all, sumOf}
@@ -24,17 +24,17 @@ use Rattle.record.specs.Filler.{noPart}
 use Rattle.record.specs.Held.{cellWidth, cellLip, cellsOf, partsOf}
 use Rattle.limits.specs.Limits.{partLimits, holdLimits}
 use Rattle.grain.specs.Depth.{standardDepth, wingDepth, cellDepth, cellArea}
-use Rattle.grain.specs.Section.{mostHeld, cellMost, kept, keptOf, fits, fitsFrom, sectionMoment}
+use Rattle.grain.specs.Section.{Kept, mostHeld, cellMost, kept, keptOf, base, firstMoment, oldTwice, fits, fitsFrom, sectionMoment}
 use Rattle.grain.specs.Slack.{slackMoment}
 use Rattle.grain.specs.Sum.{partSection, partMoment, percentage, holdMoment, weightMoment, partFits, holdFits}
 use Rattle.grain.specs.Within.{SectionWithin}
-use Rattle.grain.specs.Figures.{total, RoundedUp, printedDistances, StandardDepth, WingDepth, CellArea, MostHeld, cell, KeptAreas, Fits, SectionMoment, PartFits, HoldFits, PartSection, percent, part, WeightMoment}
+use Rattle.grain.specs.Figures.{total, RoundedUp, printedDistances, StandardDepth, WingDepth, CellArea, MostHeld, cell, KeptAreas, Fits, FirstTaken, SectionMoment, PartFits, HoldFits, PartSection, percent, part, WeightMoment}
 use Rattle.grain.proofs.Depths.{distance-is, below-first, above-last, interpolates}
-use Rattle.grain.proofs.Sections.{most-triangle, most-trapezium, most-taken, kept-sum, kept-length}
+use Rattle.grain.proofs.Sections.{most-triangle, most-trapezium, most-taken, first-triangle, first-trapezium, trapezium-taken, base-is, areas-le, kept-sum, kept-length}
 use Rattle.grain.proofs.Walks.{part-within, cells-section}
 use Rattle.grain.proofs.Weights.{HoldWithin, hold-within}
-use Rattle.grain.proofs.Totals.{total-same, sum-total, keptAt, kept-at, fits-last, highs, olds}
-use Rattle.grain.proofs.Accuracy.{bounds, firstFrom, firstTo, every-scale}
+use Rattle.grain.proofs.Totals.{total-same, sum-total, keptAt, width-at, kept-at, fits-last, highs, olds}
+use Rattle.grain.proofs.Accuracy.{base-one, made, bounds, firstFrom, firstTo, every-scale}
 
 -- ---- depths and areas
 standard : (x : ℕ) → StandardDepth x (standardDepth x)
@@ -201,12 +201,45 @@ hold-fits h = (
 )
 
 -- ---- the section moment
+first-taken : (k : Kept) → k .area ≤ 200000000 → FirstTaken (k .width) (k .area) (firstMoment k)
+first-taken k small =
+    let w = k .width in
+    let a = k .area in
+    record {
+      triangle = λ h.
+          let e = first-triangle w a h in
+          (base a, base-one a (base a) (base-is a small), rw (← e) (omega arith, omega arith));
+      trapezium = λ h.
+          let e = first-trapezium w a h in
+          let t = trapezium-taken w a h in
+          rw (← e) (omega arith, omega arith);
+    }
+
+-- each kept area of a section within its limits
+at-most-sum : (ks : List Kept) (i : ℕ) → i < length ks → keptAt ks i ≤ sumOf (λ k. k .area) ks
+unfolding sumOf
+at-most-sum [] i h = absurd (omega arith)
+at-most-sum (k ∷ ks) zero h = omega arith
+at-most-sum (k ∷ ks) (suc i) h = omega (arith, at-most-sum ks i (omega arith))
+
+kept-small : (cs : List Cell) → SectionWithin cs → (i : ℕ) → i < length (keptOf cs) → keptAt (keptOf cs) i ≤ 200000000
+kept-small [] w i h = absurd (omega (arith, w .some))
+kept-small (c ∷ cs) w i h =
+    omega (arith, at-most-sum (keptOf (c ∷ cs)) i h, kept-sum 0 c cs, areas-le (c ∷ cs) (w .cells), w .widths)
+
 pub section-moment : (cs : List Cell) → SectionWithin cs → SectionMoment cs (sectionMoment cs)
 unfolding kept-areas
 section-moment [] w = absurd (omega (arith, w .some))
 section-moment (c ∷ cs) w =
     record {
       areas = kept-areas c cs;
+      first = λ i. firstMoment (getD (keptOf (c ∷ cs)) i (kept 0 0));
+      old = oldTwice 0 (c ∷ cs) / 2;
+      firsts = λ i h. rw (← width-at 0 (c ∷ cs) i h) (first-taken (getD (keptOf (c ∷ cs)) i (kept 0 0)) (kept-small (c ∷ cs) w i (omega (arith, kept-length 0 (c ∷ cs)))));
+      olds = rw (← olds (c ∷ cs)) (omega arith, omega arith);
+      made =
+          rw (← highs 0 (c ∷ cs), ← kept-length 0 (c ∷ cs), ← sum-total firstMoment (keptOf (c ∷ cs)) (kept 0 0))
+          (made (c ∷ cs) w);
       accurate = λ k pk lo hi f.
           let b = bounds (c ∷ cs) w k pk lo hi f in
           record {
@@ -238,26 +271,24 @@ percent-is Trimmed = refl
 percent-is Voided = refl
 percent-is Partial = refl
 
-parts-sum : (h : Hold) → length (partsOf h) ≡ h .head .count → percent (h .head .mode) * total (h .head .count) (λ i. partMoment (h .head .mode) (part h i)) ≡ sumOf (partMoment (h .head .mode)) (partsOf h) * percentage (h .head .mode)
-parts-sum h n =
-    let t : sumOf (partMoment (h .head .mode)) (partsOf h) ≡ total (h .head .count) (λ i. partMoment (h .head .mode) (part h i)) =
-    sum-total (partMoment (h .head .mode)) (partsOf h) noPart ∙ ap (λ (k : ℕ). total k (λ i. partMoment (h .head .mode) (part h i))) n in
-    rw (t, percent-is (h .head .mode)) (turned (percent (h .head .mode)) (total (h .head .count) (λ i. partMoment (h .head .mode) (part h i))))
+parts-sum : (h : Hold) → percent (h .head .mode) * total (length (partsOf h)) (λ i. partMoment (h .head .mode) (part h i)) ≡ sumOf (partMoment (h .head .mode)) (partsOf h) * percentage (h .head .mode)
+parts-sum h =
+    rw (sum-total (partMoment (h .head .mode)) (partsOf h) noPart, percent-is (h .head .mode))
+    (turned (percent (h .head .mode)) (total (length (partsOf h)) (λ i. partMoment (h .head .mode) (part h i))))
   where
     turned : (a b : ℕ) → a * b ≡ b * a
     turned a b = omega arith
 
-pub weight-moment : (h : Hold) → holdLimits h ≡ true → length (h .parts) ≡ 6 → ((i : ℕ) → i < h .head .count → length (part h i .cells) ≡ 8) → WeightMoment h (weightMoment h)
+pub weight-moment : (h : Hold) → holdLimits h ≡ true → ((i : ℕ) → i < length (partsOf h) → length (part h i .cells) ≡ 8) → WeightMoment h (weightMoment h)
 unfolding partMoment holdMoment weightMoment
-weight-moment h e six eight =
+weight-moment h e eight =
     let w = hold-within h e in
-    let n : length (partsOf h) ≡ h .head .count = omega (arith, length-take (h .head .count) (h .parts), w .count) in
     record {
       sections = λ i. partSection (h .head .mode) (part h i);
       parts = λ i. partMoment (h .head .mode) (part h i);
       moment = holdMoment h;
-      section = λ i l. section-of (h .head .mode) (part h i) (all-at (partLimits (h .head .mode)) (partsOf h) i noPart (w .parts) (omega arith)) (eight i l);
+      section = λ i l. section-of (h .head .mode) (part h i) (all-at (partLimits (h .head .mode)) (partsOf h) i noPart (w .parts) l) (eight i l);
       rounded = λ i l. rounded-up (partSection (h .head .mode) (part h i) * part h i .length) 1000000000 (omega arith);
-      hold = rw (parts-sum h n) (rounded-up (sumOf (partMoment (h .head .mode)) (partsOf h) * percentage (h .head .mode)) 100 (omega arith));
+      hold = rw (parts-sum h) (rounded-up (sumOf (partMoment (h .head .mode)) (partsOf h) * percentage (h .head .mode)) 100 (omega arith));
       weight = rounded-up (10000 * holdMoment h) (h .head .factor) (omega (arith, w .factor .low));
     }

@@ -1,13 +1,13 @@
--- Laws of parts, holds and weight moments: how large they are, and how a total changes.
+-- Laws of parts, holds and weight moments: how large they are.
 use mathlib.Core.Path.{_≡_, refl, ap}
 use mathlib.Core.Bool.{Bool, true, false, cond, _&&_}
 use mathlib.Core.List.{List, [], _∷_}
 use Prim.Native.Nat.{ℕ, _+_, _*_, _^_, _≤_, _<_}
 use native.Mathlib.Omega.{arith}
 use native.Mathlib.Nat.{mul-le-mul, mul-le-mul-left, zero-mul}
-use lib.ListN.{length, getD, set, length-take}
+use lib.ListN.{length, length-take}
 use Rattle.whole.specs.Lists.{within, all, sumOf}
-use Rattle.whole.proofs.Lists.{Within, and-true, within-true, sum-set}
+use Rattle.whole.proofs.Lists.{Within, and-true, within-true}
 use Rattle.whole.proofs.Dividing.{ceil-le, ceil-zero}
 use Rattle.record.specs.declared.Mode.{Mode}
 use Rattle.record.specs.declared.Mode.the-variants.{Trimmed, Voided, Partial}
@@ -19,9 +19,7 @@ use Rattle.limits.specs.Limits.{cellLimits, sectionLimits, slackLimits, partLim
 use Rattle.grain.specs.declared.Shifted.the-variants.{Moment, NoFit}
 use Rattle.grain.specs.Section.{Kept, keptFrom, keptOf, highMoment, sectionMoment}
 use Rattle.grain.specs.Slack.{slackMoment}
-use Rattle.grain.specs.Sum.{partSection, partMoment, percentage, holdMoment, weightMoment, totalWeight}
-use lib.Dec.{eqb}
-use borrow.Author.Tests.{eqb-true}
+use Rattle.grain.specs.Sum.{partSection, partMoment, percentage, holdMoment, weightMoment}
 use Rattle.grain.proofs.Sections.{areas-le, kept-sum}
 use Rattle.grain.proofs.Walks.{part-within}
 
@@ -126,20 +124,7 @@ no-fit-of true x e =
     let z : _≡_ {A = ℕ} 0 1 = cc in absurd (omega arith)
 no-fit-of false x e = refl
 
--- ---- the total: a hold put in, replaced or removed
-pub total-changed : (hs : List Hold) (i : ℕ) (h d : Hold) → i < length hs → totalWeight (set hs i h) + weightMoment (getD hs i d) ≡ totalWeight hs + weightMoment h
-unfolding totalWeight
-total-changed hs i h d p = sum-set weightMoment hs i h d p
-
 -- a place that holds no parts counts nothing
 pub nothing-weighs : (h : Hold) → h .head .count ≡ 0 → weightMoment h ≡ 0
 unfolding weightMoment holdMoment sumOf
 nothing-weighs h e = rw (e, zero-mul) (ceil-zero (h .head .factor))
-
--- W is 0 without holds
-pub nothing-held : (hs : List Hold) → all (λ h. eqb (h .head .count) 0) hs ≡ true → totalWeight hs ≡ 0
-unfolding totalWeight sumOf all
-nothing-held [] e = refl
-nothing-held (h ∷ hs) e =
-    let t = and-true (eqb (h .head .count) 0) (all (λ h. eqb (h .head .count) 0) hs) e in
-    omega (arith, nothing-weighs h (eqb-true (h .head .count) 0 (t .0)), nothing-held hs (t .1))

@@ -1,5 +1,6 @@
 -- Document 01, Void depth to the sum, in its own words and numbers: what each figure of a hold is, by products and of the records'
--- fields. Nothing here rests on the definitions by which the program is proved; proofs/Figures.antt shows that these give such figures.
+-- fields. Nothing here rests on the definitions by which the program is proved; proofs/Figures.antt shows that these give such figures. Cells and
+-- parts are counted from 0.
 use mathlib.Core.Path.{_≡_}
 use mathlib.Core.List.{List, [], _∷_}
 use Prim.Native.Nat.{ℕ, zero, suc, _+_, _*_, _-_, _≤_, _<_, min}
@@ -122,9 +123,22 @@ pub record Accurate (cs : List Cell) (s : KeptAreas cs) (m k : ℕ) (lo hi : ℕ
       < 1200000 * (k * total (length cs) (λ i. s .kept i * boundary cs (suc i)))
       + 400000 * (k * total (length cs) (s .area)) + 1200000 * (k * (length cs + 1))
 
--- m is a section moment of these cells: so accurate at every whole scale from 1 up, and at each there are such first moments
+-- f is the first moment of a kept area a in a cell of width w, as the program takes it: the base b rounded down, and then the moment
+pub record FirstTaken (w a f : ℕ) : Type 0 where
+  pub triangle : 200000 * a ≤ 26795 * (w * w) → (b : ℕ) × RootAt (200000 * a) 26795 1 b × RoundedDown (a * b) 3 f
+  pub trapezium :
+      26795 * (w * w) < 200000 * a →
+      (1200000 * f + 26795 * (w * w * w) ≤ 600000 * (a * w)) × (600000 * (a * w) < 1200000 * f + 26795 * (w * w * w) + 1200000)
+
+-- m is the section moment of these cells. It is made with three roundings: each base, each first moment, and once the sum for old areas. And
+-- so it is accurate at every whole scale from 1 up; at each there are first moments to compare it with.
 pub record SectionMoment (cs : List Cell) (m : ℕ) : Type 0 where
   pub areas : KeptAreas cs
+  pub first : ℕ → ℕ
+  pub old : ℕ
+  pub firsts : (i : ℕ) → i < length cs → FirstTaken (cellWidth (cell cs i)) (areas .kept i) (first i)
+  pub olds : RoundedDown (total (length cs) (λ i. areas .area i * (boundary cs i + boundary cs (suc i)))) 2 old
+  pub made : m + total (length cs) first + old ≡ total (length cs) (λ i. areas .kept i * boundary cs (suc i))
   pub accurate :
       (k : ℕ) → 0 < k → (lo hi : ℕ → ℕ) →
       ((i : ℕ) → i < length cs → FirstMoment k (cellWidth (cell cs i)) (areas .kept i) (lo i) (hi i)) →
@@ -141,6 +155,10 @@ PartSection Trimmed p m = SectionMoment (cellsOf p) m
 PartSection Voided p m = SectionMoment (cellsOf p) m
 PartSection Partial p m = RoundedUp (46631 * (p .breadth * p .breadth * p .breadth)) 1200000 m
 
+-- the i-th part of a hold
+abbrev pub part : Hold → ℕ → Part
+part h i = getD (partsOf h) i noPart
+
 -- every part's void fits; those of `partial` have no cells
 abbrev pub PartFits : Mode → Part → Type 0
 PartFits Trimmed p = Fits (cellsOf p)
@@ -148,7 +166,7 @@ PartFits Voided p = Fits (cellsOf p)
 PartFits Partial p = Unit {0}
 
 abbrev pub HoldFits : Hold → Type 0
-HoldFits h = (i : ℕ) → i < length (partsOf h) → PartFits (h .head .mode) (getD (partsOf h) i noPart)
+HoldFits h = (i : ℕ) → i < length (partsOf h) → PartFits (h .head .mode) (part h i)
 
 -- the percentage of a hold
 abbrev pub percent : Mode → ℕ
@@ -156,17 +174,13 @@ percent Trimmed = 100
 percent Voided = 106
 percent Partial = 112
 
--- the i-th part of a hold
-abbrev pub part : Hold → ℕ → Part
-part h i = getD (partsOf h) i noPart
-
 -- w is the weight moment of a hold, in kg·m: a part is section moment × LENGTH, rounded up to thousandths of m⁴ (10⁹ mm⁴ each); a hold is
 -- the sum of its parts × its percentage, rounded up; its weight moment is 10,000 × that/SF, rounded up
 pub record WeightMoment (h : Hold) (w : ℕ) : Type 0 where
   pub sections : ℕ → ℕ
   pub parts : ℕ → ℕ
   pub moment : ℕ
-  pub section : (i : ℕ) → i < h .head .count → PartSection (h .head .mode) (part h i) (sections i)
-  pub rounded : (i : ℕ) → i < h .head .count → RoundedUp (sections i * part h i .length) 1000000000 (parts i)
-  pub hold : RoundedUp (percent (h .head .mode) * total (h .head .count) parts) 100 moment
+  pub section : (i : ℕ) → i < length (partsOf h) → PartSection (h .head .mode) (part h i) (sections i)
+  pub rounded : (i : ℕ) → i < length (partsOf h) → RoundedUp (sections i * part h i .length) 1000000000 (parts i)
+  pub hold : RoundedUp (percent (h .head .mode) * total (length (partsOf h)) parts) 100 moment
   pub weight : RoundedUp (10000 * moment) (h .head .factor) w

@@ -1,5 +1,5 @@
 -- Document 01, the sum: parts in thousandths of m⁴, weight moments in kg·m.
-use mathlib.Core.Bool.{Bool, true, cond, not}
+use mathlib.Core.Bool.{Bool, true, cond}
 use mathlib.Core.List.{List}
 use Prim.Native.Nat.{ℕ, _*_}
 use Rattle.whole.specs.Divide.{ceilDiv}

@@ -1,7 +1,7 @@
 -- Document 01, Lines of the panel, in its own numbers and of the records' fields: when a record is within its limits. Nothing here rests
 -- on the tests by which the program is proved; proofs/Ranges.antt shows that those pass exactly there.
 use mathlib.Core.Path.{_≡_}
-use Prim.Native.Nat.{ℕ, _+_, _≤_, _<_}
+use Prim.Native.Nat.{ℕ, _≤_, _<_}
 use lib.ListN.{length, getD}
 use Rattle.whole.specs.Lists.{sumOf}
 use Rattle.record.specs.declared.Rule.{Rule}

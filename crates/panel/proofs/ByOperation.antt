@@ -46,9 +46,9 @@ use Rattle.panel.specs.Operations.{Change, taken, refusedWith, shipOpera
 use Rattle.panel.specs.Judge.{weight, basisAt, judgedAt, judgedOf}
 use Rattle.panel.specs.Step.{Outcome, verdictGiven, stepOf}
 use Rattle.panel.specs.Within.{Within, Ready}
-use Rattle.panel.specs.Codes.{request, EveryLine, LimitCodes, lastD, ColumnCodes, HoldCodes, DropCodes, JudgeCodes, ByOperation}
+use Rattle.panel.specs.Codes.{request, Asks, EveryLine, LimitCodes, lastD, ColumnCodes, HoldCodes, DropCodes, JudgeCodes, ByOperation}
 use Rattle.panel.specs.Demands.{isOneOf, CodesByOperation}
-use Rattle.panel.proofs.Asked.{early, requested, short, at-reading, hears, code-of}
+use Rattle.panel.proofs.Asked.{early, requested, short, at-reading, hears, heard, asks, code-of}
 use Rattle.panel.proofs.Codes.{codesOf, right-by}
 use Rattle.panel.proofs.Effects.{ship-passed, change-code}
 use Rattle.panel.proofs.Judging.{columns-ordered, load-within, holds-sound, ready-around, ready-judged}
@@ -360,6 +360,18 @@ late JudgeLine = refl
 late ClearLine = refl
 late NoShape = refl
 
+-- 14 is given where a line has no shape alone
+only-no-shape : (k : Kind) → isOneOf (codesOf k) 14 ≡ true → k ≡ NoShape
+unfolding isOneOf
+only-no-shape (ShipLine s) e = cc
+only-no-shape ColumnLine e = cc
+only-no-shape (LoadLine l) e = cc
+only-no-shape (HoldLine n) e = cc
+only-no-shape (DropLine n) e = cc
+only-no-shape JudgeLine e = cc
+only-no-shape ClearLine e = cc
+only-no-shape NoShape e = cc
+
 apart : (ms : List ℕ) (n : ℕ) → all (λ m. not (isOneOf early m)) ms ≡ true → isOneOf ms n ≡ true → isOneOf early n ≡ false
 unfolding all isOneOf
 apart [] n a e = clash e
@@ -435,12 +447,20 @@ module _ (c : Condition) (line : List ℕ) (lent : ℕ) where
         thirteen = with-room 13 refl (omega arith) (λ z. omega arith) (l .thirteen);
       }
 
+  no-shape : given ≡ 14 → Asks line lent NoShape
+  unfolding isOneOf
+  no-shape e =
+      let h = heard c line lent 14 e refl in
+      let z : requested c line .code ≡ 14 = ap (λ (o : Outcome). o .code) (sym (h .outcome)) ∙ e in
+      let l = right-by c (request line .kind) (request line .hold) (request line .column) .listed in
+      asks c line lent NoShape h (only-no-shape (request line .kind) (rw z at l))
+
   -- ---- all of them
   pub by-operation : ByOperation c line lent given
   by-operation =
       record {
         every = every-line;
-        noShape = λ a. code-of c line lent NoShape a;
+        noShape = (no-shape, λ a. code-of c line lent NoShape a);
         ship = λ s a. rw (code-of c line lent (ShipLine s) a) (ship-codes c s);
         load = λ l a. rw (code-of c line lent (LoadLine l) a) (load-codes c l);
         column = λ a. rw (code-of c line lent ColumnLine a) (column-codes c (request line .column));

@@ -3,7 +3,7 @@ use mathlib.Core.Path.{_≡_, ap, _∙_}
 use mathlib.Core.Bool.{true}
 use Prim.Native.Nat.{ℕ, _≤_, _<_}
 use native.Mathlib.Omega.{arith}
-use lib.ListN.{length, getD}
+use lib.ListN.{length, getD, length-take}
 use lib.Seq.{getD-take}
 use borrow.Author.Tests.{lt-ltb}
 use Rattle.record.specs.declared.Part.{Part}
@@ -12,7 +12,7 @@ use Rattle.record.specs.Filler.{noPart, noHold}
 use Rattle.grain.specs.Figures.{total, part, WeightMoment}
 use Rattle.grain.specs.Sum.{weightMoment, totalWeight}
 use Rattle.grain.proofs.Totals.{sum-total}
-use Rattle.grain.proofs.Weights.{nothing-weighs, hold-within}
+use Rattle.grain.proofs.Weights.{nothing-weighs}
 use Rattle.grain.proofs.Figures.{weight-moment}
 use Rattle.condition.specs.declared.Condition.{Condition}
 use Rattle.panel.specs.Within.{Within}
@@ -24,10 +24,11 @@ module _ (c : Condition) (w : Within c) where
   held-weighs i h some =
       let x = getD (c .holds) i noHold in
       let l = hold-sound c w i h (lt-ltb 0 (x .head .count) some) .limits in
-      weight-moment x l (w .partPlaces i h)
+      weight-moment x l
       (λ j k.
-      ap (λ (p : Part). length (p .cells)) (getD-take (x .head .count) (x .parts) j noPart k)
-      ∙ w .cellPlaces i h j (omega (arith, hold-within x l .count)) noPart)
+      let n = length-take (x .head .count) (x .parts) in
+      ap (λ (p : Part). length (p .cells)) (getD-take (x .head .count) (x .parts) j noPart (omega arith))
+      ∙ w .places .cellPlaces i h j (omega (arith, w .places .partPlaces i h)))
 
 pub weight-is-total : WeightIsTotal
 unfolding totalWeight
@@ -38,5 +39,5 @@ weight-is-total c w =
       none = λ i h z. nothing-weighs (getD (c .holds) i noHold) z;
       sum =
           sum-total weightMoment (c .holds) noHold
-          ∙ ap (λ (n : ℕ). total n (λ i. weightMoment (getD (c .holds) i noHold))) (w .holdPlaces);
+          ∙ ap (λ (n : ℕ). total n (λ i. weightMoment (getD (c .holds) i noHold))) (w .places .holdPlaces);
     }

@@ -26,7 +26,6 @@ use Rattle.stability.proofs.Shown.{sizes}
 use Rattle.panel.specs.Within.{Within, Complete}
 use Rattle.panel.specs.Demands.{VerdictsHold}
 use Rattle.panel.proofs.Asked.{asked}
-use Rattle.panel.proofs.Demand2.{weight-is-total}
 use Rattle.panel.proofs.Sequence.{held-length}
 use Rattle.panel.proofs.Judging.{places-fitting, columns-ordered, holds-sound, load-within, ready-around, ready-judged}
 
@@ -35,7 +34,7 @@ module _ (c : Condition) (w : Within c) (m : Complete c) where
   ten : (i : ℕ) → i < length (held (c .columns)) → length (getD (held (c .columns)) i noColumn .kn) ≡ 10
   ten i p =
       let h : i < c .columns .count = omega (arith, held-length (c .columns) (places-fitting c w)) in
-      ap (λ (k : Column). length (k .kn)) (getD-take (c .columns .count) (c .columns .places) i noColumn h) ∙ w .knPlaces i h noColumn
+      ap (λ (k : Column). length (k .kn)) (getD-take (c .columns .count) (c .columns .places) i noColumn h) ∙ w .places .knPlaces i h
 
   judgeable : (i : ℕ) → columnsAround (c .load .d) (held (c .columns)) ≡ At i → Judgeable (basisAt c i)
   judgeable i e =
@@ -73,7 +72,7 @@ verdicts-hold c line lent w m a =
       from = jd .from;
       to = jd .to;
       load = refl;
-      weight = weight-is-total c w;
+      weight = refl;
       code = ap (λ (o : Outcome). o .code) o;
       shown = rw o
           (verdict-shown _ (verdictOf (c .ship) b .gm) (verdictOf (c .ship) b .diff) (verdictOf (c .ship) b .upper) (verdictOf (c .ship) b .area)

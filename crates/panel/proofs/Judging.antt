@@ -3,13 +3,12 @@
 use mathlib.Core.Path.{_≡_, refl}
 use mathlib.Core.Bool.{Bool, true, false, not, _&&_, _||_}
 use mathlib.Core.List.{List, [], _∷_}
-use Prim.Native.Nat.{ℕ, suc, _+_, _≤_, _<_}
+use Prim.Native.Nat.{ℕ, _+_, _≤_, _<_}
 use native.Mathlib.Omega.{arith}
-use native.Mathlib.Nat.{lt-of-not-le}
-use native.Mathlib.Decide.{decLe}
 use lib.ListN.{length, getD}
 use borrow.Author.Tests.{le-leb}
 use Rattle.whole.specs.Lists.{all}
+use Rattle.whole.proofs.Lists.{all-from}
 use Rattle.record.specs.declared.Column.{Column}
 use Rattle.record.specs.declared.Hold.{Hold}
 use Rattle.record.specs.Filler.{noHold, noColumn}
@@ -20,7 +19,7 @@ use Rattle.grain.specs.Sum.{holdFits}
 use Rattle.columns.specs.declared.Around.{Around}
 use Rattle.columns.specs.declared.Around.the-variants.{At, Outside}
 use Rattle.columns.specs.Search.{columnsAround}
-use Rattle.stability.proofs.Held.{lastD, below-outside, above-outside, between-found}
+use Rattle.stability.proofs.Held.{lastD, between-found}
 use Rattle.condition.specs.declared.Condition.{Condition}
 use Rattle.condition.specs.Condition.{empty, isHeld}
 use Rattle.panel.specs.Judge.{soundPlace, judgedAt, judgedOf}
@@ -28,37 +27,14 @@ use Rattle.panel.specs.Within.{Within, Ready}
 use Rattle.panel.proofs.Effects.{HoldPassed, ship-passed, load-passed, hold-passed}
 use Rattle.panel.proofs.Sequence.{Fitting, taken-order}
 
--- ---- D that has columns around it is between the first and the last
-pub inside-ends : (d : ℕ) (ks : List Column) (i : ℕ) → inOrder ks ≡ true → columnsAround d ks ≡ At i → (getD ks 0 noColumn .d ≤ d) × (d ≤ lastD ks)
-unfolding columnsAround
-inside-ends d [] i o e =
-    let z : _≡_ {A = ℕ} 0 1 = cc in absurd (omega arith)
-inside-ends d (a ∷ ks) i o e = (first (decLe (a .d) d), last (decLe d (lastD (a ∷ ks))))
-  where
-    clash : columnsAround d (a ∷ ks) ≡ Outside → ⊥
-    clash z = let y : _≡_ {A = ℕ} 0 1 = cc in omega arith
-
-    first : Dec (a .d ≤ d) → a .d ≤ d
-    first (yes h) = h
-    first (no h) = absurd (clash (below-outside d a ks o (lt-of-not-le h)))
-
-    last : Dec (d ≤ lastD (a ∷ ks)) → d ≤ lastD (a ∷ ks)
-    last (yes h) = h
-    last (no h) = absurd (clash (above-outside d a ks o (lt-of-not-le h)))
-
--- and there, of two or more, two neighbours stand around it
+-- ---- of two columns or more, with D between the first and the last, two neighbours stand around it
 some-place : (d : ℕ) (ks : List Column) (x : Around) → 2 ≤ length ks → getD ks 0 noColumn .d ≤ d → d ≤ lastD ks → columnsAround d ks ≡ x → (i : ℕ) × (columnsAround d ks ≡ At i)
 some-place d [] x n f l e = absurd (omega arith)
 some-place d (a ∷ []) x n f l e = absurd (omega arith)
 some-place d (a ∷ b ∷ ks) (At i) n f l e = (i, e)
 some-place d (a ∷ b ∷ ks) Outside n f l e = absurd (between-found d a b ks f l e)
 
--- ---- what every place passes, all pass
-all-of : {X : Type 0} (f : X → Bool) (l : List X) (d : X) → ((i : ℕ) → i < length l → f (getD l i d) ≡ true) → all f l ≡ true
-unfolding all
-all-of f [] d h = refl
-all-of f (x ∷ l) d h = rw (h 0 (omega arith), all-of f l d (λ i p. h (suc i) (omega arith)))
-
+-- ---- a place that is empty, or whose hold is within its limits and fits
 sound-by : (h : Hold) (x : Bool) → isHeld h ≡ x → (isHeld h ≡ true → (holdLimits h ≡ true) × (holdFits h ≡ true)) → (not x || holdLimits h && holdFits h) ≡ true
 sound-by h true e f =
     let t = f e in rw (t .0, t .1)
@@ -67,7 +43,7 @@ sound-by h false e f = refl
 -- ---- a condition within its limits
 module _ (c : Condition) (w : Within c) where
   pub places-fitting : Fitting (c .columns)
-  places-fitting = record { places = w .columnPlaces; count = w .columnCount }
+  places-fitting = record { places = w .places .columnPlaces; count = w .places .columnCount }
 
   pub columns-ordered : inOrder (held (c .columns)) ≡ true
   unfolding inOrder
@@ -78,9 +54,9 @@ module _ (c : Condition) (w : Within c) where
 
   pub holds-sound : all soundPlace (c .holds) ≡ true
   holds-sound =
-      all-of soundPlace (c .holds) noHold
+      all-from soundPlace (c .holds) noHold
       (λ i p. let h = getD (c .holds) i noHold in
-      sound-by h (isHeld h) refl (λ e. let t = hold-sound i (omega (arith, w .holdPlaces)) e in (t .limits, t .fits)))
+      sound-by h (isHeld h) refl (λ e. let t = hold-sound i (omega (arith, w .places .holdPlaces)) e in (t .limits, t .fits)))
 
   pub load-within : c .loaded ≡ true → loadLimits (c .load) ≡ true
   load-within e = load-passed empty (c .load) (w .load e)

@@ -1,23 +1,28 @@
 -- Every condition that lines can reach is within its limits: it is so at the start, and a line that is taken puts in a record that passed
 -- its tests, or takes one out.
-use mathlib.Core.Path.{_≡_, refl, ap, _∙_}
+use mathlib.Core.Path.{_≡_, refl, sym, ap, _∙_}
 use mathlib.Core.Bool.{Bool, true, false}
 use mathlib.Core.List.{List, [], _∷_}
-use Prim.Native.Nat.{ℕ, _+_, _-_, _<_}
+use Prim.Native.Nat.{ℕ, zero, suc, _+_, _-_, _≤_, _<_}
 use native.Mathlib.Omega.{arith}
 use lib.Dec.{eqb}
-use lib.ListN.{length, getD, set, length-set, getD-replicate}
-use lib.Seq.{getD-set-same, getD-set-other}
-use borrow.Author.Tests.{eqb-true, eqb-false}
+use lib.ListN.{length, getD, take, set, length-take, length-set, getD-replicate}
+use lib.Seq.{getD-set-same, getD-set-other, getD-take, take-suc, take-length, length-take-le}
+use borrow.Author.Tests.{eqb-true, eqb-false, ltb-true}
+use Rattle.whole.proofs.Lists.{getD-any}
 use Rattle.record.specs.declared.Column.{Column}
 use Rattle.record.specs.declared.Columns.{Columns}
 use Rattle.record.specs.declared.Part.{Part}
 use Rattle.record.specs.declared.Hold.{Hold}
 use Rattle.columns.specs.declared.Added.the-variants.{Taken}
-use Rattle.record.specs.Filler.{noPart, noHold}
+use Rattle.record.specs.Filler.{noColumn, noPart, noHold}
+use Rattle.limits.specs.Ranges.{ColumnRange}
+use Rattle.limits.proofs.Ranges.{ship-range, load-range, column-range, hold-range, place-range}
+use Rattle.columns.proofs.Adding.{above-is, answer-above}
+use Rattle.grain.proofs.Figures.{hold-fits}
 use Rattle.limits.specs.Limits.{shipLimits, loadLimits, placeLimits}
 use Rattle.record.specs.Held.{held}
-use Rattle.columns.specs.Columns.{columnAnswer, withColumn}
+use Rattle.columns.specs.Columns.{isAbove, columnAnswer, withColumn}
 use Rattle.text.specs.Token.{tokens}
 use Rattle.request.specs.declared.Kind.{Kind}
 use Rattle.request.specs.declared.Kind.the-variants.{ShipLine, ColumnLine, LoadLine, HoldLine, DropLine, JudgeLine, ClearLine, NoShape}
@@ -28,7 +33,7 @@ use Rattle.panel.specs.Judge.{judgedOf}
 use Rattle.panel.specs.Step.{outcomeBy, stepOf, Sent, conditionAfter}
 use Rattle.panel.specs.Within.{Within, ColumnsTaken}
 use Rattle.panel.specs.Codes.{request}
-use Rattle.panel.specs.Demands.{ReachedAreWithin}
+use Rattle.panel.specs.Demands.{ReachedAreWithin, RangesAreWithin}
 use Rattle.panel.proofs.Taking.{place-within}
 use Rattle.panel.proofs.Asked.{taken-as}
 use Rattle.panel.proofs.Effects.{HoldPassed, ship-passed, ship-taken, load-passed, load-taken, column-passed, column-taken, hold-passed, hold-taken, drop-passed, drop-taken, judge-same}
@@ -63,12 +68,14 @@ record Good (c : Condition) : Type 0 where
 good-within : (c : Condition) → Good c → Within c
 good-within c g =
     record {
-      holdPlaces = g .holds .long;
-      columnPlaces = g .columns .fitting .places;
-      columnCount = g .columns .fitting .count;
-      knPlaces = g .columns .ten;
-      partPlaces = λ n h. g .holds .each n h .sized .parts;
-      cellPlaces = λ n h. g .holds .each n h .sized .cells;
+      places = record {
+        holdPlaces = g .holds .long;
+        columnPlaces = g .columns .fitting .places;
+        columnCount = g .columns .fitting .count;
+        knPlaces = λ i h. g .columns .ten i h noColumn;
+        partPlaces = λ n h. g .holds .each n h .sized .parts;
+        cellPlaces = λ n h i q. g .holds .each n h .sized .cells i q noPart;
+      };
       ship = λ e. ap (λ ch. ch .code) (ship-taken empty (c .ship) (g .ship e));
       load = λ e. ap (λ ch. ch .code) (load-taken empty (c .load) (g .load e));
       columns = g .columns .taken;
@@ -168,3 +175,52 @@ good-after c (l ∷ ls) g = good-after (stepOf c (l .line) (l .lent) .after) ls 
 
 pub reached-are-within : ReachedAreWithin
 reached-are-within ls = good-within (conditionAfter empty ls) (good-after empty ls good-empty)
+
+-- ---- a condition whose records are in the paper's ranges
+module _ (ks : List Column) (few : length ks ≤ 20) (ranges : (i : ℕ) → i < length ks → ColumnRange (getD ks i noColumn)) (rising : (i : ℕ) → i + 1 < length ks → getD ks i noColumn .d < getD ks (i + 1) noColumn .d) where
+  above-before : (n : ℕ) → n < length ks → isAbove (getD ks n noColumn .d) (take n ks) ≡ true
+  above-before n h =
+      let l = length-take-le n ks (omega arith) in
+      above-is (getD ks n noColumn .d) (take n ks) noColumn .1
+      (λ p.
+      let e : n - 1 + 1 ≡ n = omega arith in
+      let r = rw e at (rising (n - 1) (omega arith)) in
+      rw (l, getD-take n ks (n - 1) noColumn (omega arith)) r)
+
+  taken-up-to : (n : ℕ) → n ≤ length ks → ColumnsTaken empty (take n ks)
+  taken-up-to zero h = tt
+  taken-up-to (suc n) h =
+      let k = getD ks n noColumn in
+      let l = length-take-le n ks (omega arith) in
+      let a = answer-above (take n ks) k (column-range k .1 (ranges n h)) true (omega arith) (above-before n h) in
+      rw (take-suc ks n noColumn h) (taken-more empty (take n ks) k (good-empty .columns .fitting) (taken-up-to n (omega arith)) (sym a))
+
+pub ranges-are-within : RangesAreWithin
+ranges-are-within c p r =
+    let ks = held (c .columns) in
+    let n = length-take (c .columns .count) (c .columns .places) in
+    good-within c
+    (record {
+      ship = λ e. ship-range (c .ship) .1 (r .ship e);
+      load = λ e. load-range (c .load) .1 (r .load e);
+      columns = record {
+        fitting = record { places = p .columnPlaces; count = p .columnCount };
+        ten = λ i h k.
+            ap (λ (x : Column). length (x .kn)) (getD-any (c .columns .places) i k noColumn (omega (arith, p .columnPlaces, p .columnCount))) ∙ p .knPlaces i h;
+        taken = rw (take-length ks) at (taken-up-to ks (omega (arith, p .columnCount)) (r .columns) (r .rising) (length ks) (omega arith));
+      };
+      holds = record {
+        long = p .holdPlaces;
+        each = λ m h.
+            let x = getD (c .holds) m noHold in
+            record {
+              sized = record {
+                parts = p .partPlaces m h;
+                cells = λ i q d. ap (λ (y : Part). length (y .cells)) (getD-any (x .parts) i d noPart (omega (arith, p .partPlaces m h))) ∙ p .cellPlaces m h i q;
+              };
+              passed = λ e.
+                  let t = r .holds m h (ltb-true 0 (x .head .count) e) in
+                  record { place = place-range (m + 1) .1 (omega arith, omega arith); limits = hold-range x .1 (t .0); fits = hold-fits x .1 (t .1) };
+            };
+      };
+    })

@@ -4,7 +4,7 @@ use mathlib.Core.Bool.{true}
 use mathlib.Core.List.{List, [], _∷_, _++_}
 use Prim.Native.Nat.{ℕ, _-_, _≤_}
 use native.Mathlib.Omega.{arith}
-use lib.ListN.{length, getD, length-take, getD-replicate}
+use lib.ListN.{length, getD, length-take}
 use lib.Seq.{getD-set-same, getD-set-other}
 use Rattle.record.specs.declared.Ship.{Ship}
 use Rattle.record.specs.declared.Load.{Load}
@@ -23,29 +23,21 @@ use Rattle.text.specs.Line.{readingOf}
 use Rattle.request.specs.declared.Kind.{Kind}
 use Rattle.request.specs.declared.Kind.the-variants.{ShipLine, ColumnLine, LoadLine, HoldLine, DropLine, JudgeLine, ClearLine, NoShape}
 use Rattle.reply.specs.Replies.{answerReply}
-use Rattle.reply.proofs.Shown.{answer-shown, refusal-shown, verdict-shown}
+use Rattle.reply.specs.Shown.{RefusalShown}
+use Rattle.reply.proofs.Shown.{answer-shown, refusal-shown}
 use Rattle.condition.specs.declared.Condition.{Condition}
-use Rattle.condition.specs.Condition.{empty, withShip, withLoad, withColumns, withHold}
+use Rattle.condition.proofs.Empty.{starts-empty}
+use Rattle.condition.specs.Condition.{withShip, withLoad, withColumns, withHold}
 use Rattle.panel.specs.declared.Judged.{Judged}
 use Rattle.panel.specs.Judge.{basisAt, judgedOf}
 use Rattle.panel.specs.Step.{Outcome, verdictGiven, outcomeBy, stepOf}
 use Rattle.panel.specs.Codes.{request, Asks}
-use Rattle.panel.specs.Demands.{isOneOf, OtherPlaces, Nothing, Stores, RecordsAreStored, StartsEmpty, JudgeShows, refusal, verdict, RepliesShowTheCode}
-use Rattle.panel.proofs.Shown.{judged-by}
+use Rattle.panel.specs.Demands.{isOneOf, OtherPlaces, Stores, RecordsAreStored, RepliesShowTheCode}
+use Rattle.panel.proofs.Shown.{refusals, judged-by}
 use Rattle.panel.proofs.Taking.{taken-is}
 use Rattle.panel.proofs.Asked.{none-applies, short, at-reading, hears, asked, taken-as}
 use Rattle.panel.proofs.Effects.{ship-effect, load-effect, column-passed, column-effect, hold-passed, hold-effect, drop-passed, drop-effect, judge-same}
 use Rattle.panel.proofs.Sequence.{held-more}
-
--- ---- the condition at the start
-pub starts-empty : StartsEmpty
-starts-empty =
-    record {
-      ship = refl;
-      load = refl;
-      columns = refl;
-      holds = λ n p q. ap (λ (h : Hold). h .head .count) (getD-replicate 16 (n - 1) noHold noHold (omega arith));
-    }
 
 -- ---- a hold put in a place of the sixteen
 module _ (c : Condition) (n : ℕ) (h : Hold) where
@@ -138,18 +130,20 @@ module _ (c : Condition) (line : List ℕ) (lent : ℕ) where
     answered-by BadNumber e = rw (at-reading c line lent room BadNumber e)
 
 -- ---- judge's reply
-five : (j : Judgement) → isOneOf (0 ∷ 40 ∷ 41 ∷ 42 ∷ 43 ∷ []) (judgementCode j) ≡ true
+-- no verdict has a code of the refusals
+no-verdict : (j : Judgement) → isOneOf refusals (judgementCode j) ≡ true → ⊥
 unfolding isOneOf
-five Passed = refl
-five ShortOfGm = refl
-five ShortAtHeel = refl
-five ShortBeyond = refl
-five ShortOfArea = refl
+no-verdict Passed e = let z : _≡_ {A = ℕ} 0 1 = cc in omega arith
+no-verdict ShortOfGm e = let z : _≡_ {A = ℕ} 0 1 = cc in omega arith
+no-verdict ShortAtHeel e = let z : _≡_ {A = ℕ} 0 1 = cc in omega arith
+no-verdict ShortBeyond e = let z : _≡_ {A = ℕ} 0 1 = cc in omega arith
+no-verdict ShortOfArea e = let z : _≡_ {A = ℕ} 0 1 = cc in omega arith
 
-judge-shows : (c : Condition) → JudgeShows (verdictGiven c (judgedOf c))
+judge-shows : (c : Condition) → isOneOf refusals (verdictGiven c (judgedOf c) .code) ≡ true → RefusalShown (verdictGiven c (judgedOf c) .code) (verdictGiven c (judgedOf c) .reply)
 judge-shows c =
-    judged-by c (λ (j : Judged). JudgeShows (verdictGiven c j)) (λ n e. refusal e (refusal-shown n))
-    (λ i. let v = verdictOf (c .ship) (basisAt c i) in verdict (five (v .judgement)) v (λ w. verdict-shown _ (v .gm) (v .diff) (v .upper) (v .area) w))
+    judged-by c (λ (j : Judged). isOneOf refusals (verdictGiven c j .code) ≡ true → RefusalShown (verdictGiven c j .code) (verdictGiven c j .reply))
+    (λ n e t. refusal-shown n)
+    (λ i t. absurd (no-verdict (verdictOf (c .ship) (basisAt c i) .judgement) t))
 
 -- ---- all of them
 pub records-are-stored : RecordsAreStored

@@ -6,7 +6,7 @@ use Prim.Native.Nat.{ℕ, _-_, _≤_, _<_}
 use native.Mathlib.Omega.{arith}
 use lib.Dec.{leb}
 use lib.ListN.{length, getD}
-use borrow.Author.Tests.{leb-true, leb-false}
+use borrow.Author.Tests.{leb-false}
 use Rattle.whole.proofs.Lists.{within-true, getD-any}
 use Rattle.record.specs.declared.Column.{Column}
 use Rattle.record.specs.declared.Hold.{Hold}
@@ -20,15 +20,15 @@ use Rattle.grain.specs.declared.Weighed.{Weighed}
 use Rattle.grain.specs.declared.Weighed.the-variants.{Weight, NoFit, Limits as Outside}
 use Rattle.grain.specs.Sum.{holdFits, weightMoment, weighedOf}
 
--- what the answers 00 and 23 say of the three tests of a column: of its limits, of twenty held, of its D
+-- what the answer 00 says of the three tests of a column: of its limits, of twenty held, of its D
 abbrev Says : (inside full above : Bool) → Added → Type 0
 Says x y z Taken = (x ≡ true) × (y ≡ false) × (z ≡ true)
-Says x y z Full = (x ≡ true) × (y ≡ true)
+Says x y z Full = Unit {0}
 Says x y z Limits = Unit {0}
 Says x y z NotAbove = Unit {0}
 
 says : (x y z : Bool) → Says x y z (cond (not x) Limits (cond y Full (cond z Taken NotAbove)))
-says true true z = (refl, refl)
+says true true z = tt
 says true false true = (refl, refl, refl)
 says true false false = tt
 says false y z = tt
@@ -45,9 +45,6 @@ module _ (ks : List Column) (k : Column) where
 
   pub taken-is : columnAnswer ks k ≡ Taken → ColumnPassed
   taken-is e = let t = answer-says Taken e in record { limits = t .0; below = leb-false 20 (length ks) (t .1); above = t .2 }
-
-  pub full-is : columnAnswer ks k ≡ Full → (columnLimits k ≡ true) × (20 ≤ length ks)
-  full-is e = let t = answer-says Full e in (t .0, leb-true 20 (length ks) (t .1))
 
 pub taken-below : (ks : List Column) (k : Column) → columnAnswer ks k ≡ Taken → length ks < 20
 taken-below ks k e = taken-is ks k e .below

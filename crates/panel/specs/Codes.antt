@@ -22,7 +22,7 @@ use Rattle.request.specs.declared.Request.{Request}
 use Rattle.request.specs.Shape.{requestOf}
 use Rattle.condition.specs.declared.Condition.{Condition}
 use Rattle.panel.specs.Judge.{weight}
-use Rattle.panel.specs.Within.{Within, Ready, Complete}
+use Rattle.panel.specs.Within.{Within, Ready}
 
 -- ---- what a line asks for
 
@@ -89,7 +89,7 @@ pub record JudgeCodes (c : Condition) (code : ℕ) : Type 0 where
 -- ---- all of them
 pub record ByOperation (c : Condition) (line : List ℕ) (lent code : ℕ) : Type 0 where
   pub every : EveryLine line lent code
-  pub noShape : Asks line lent NoShape → code ≡ 14
+  pub noShape : (code ≡ 14) ↔ Asks line lent NoShape
   pub ship : (s : Ship) → Asks line lent (ShipLine s) → LimitCodes (ShipRange s) code
   pub load : (l : Load) → Asks line lent (LoadLine l) → LimitCodes (LoadRange l) code
   pub column : Asks line lent ColumnLine → ColumnCodes (held (c .columns)) (request line .column) code

@@ -1,9 +1,11 @@
 -- The three demands (document 00), of the step of one line and of its repetition over any list of lines. Proved in
--- proofs/Demands.antt. What each layer says by itself stands there: text/specs/Codes.antt, limits/specs/Ranges.antt, grain/specs/Figures.antt,
--- stability/specs/Demand.antt, reply/specs/Shown.antt; the codes of the operations in Codes.antt, the worked runs in Runs.antt.
+-- proofs/Demands.antt. What each layer says by itself stands there: text/specs/Codes.antt, limits/specs/Ranges.antt,
+-- grain/specs/Figures.antt, stability/specs/Demand.antt, reply/specs/Shown.antt; the codes of the operations in Codes.antt, the worked
+-- runs in Runs.antt.
 use mathlib.Core.Path.{_≡_}
-use mathlib.Core.Bool.{Bool, true, false, _&&_, _||_}
+use mathlib.Core.Bool.{Bool, true, false, _||_}
 use mathlib.Core.List.{List, [], _∷_, _++_}
+use mathlib.Core.Logic.{_↔_}
 use Prim.Native.Nat.{ℕ, _+_, _-_, _≤_, _<_}
 use lib.Dec.{eqb}
 use lib.ListN.{length, getD}
@@ -13,19 +15,22 @@ use Rattle.record.specs.Held.{held}
 use Rattle.record.specs.Filler.{noColumn, noHold}
 use Rattle.grain.specs.Figures.{total, WeightMoment}
 use Rattle.stability.specs.declared.Basis.{Basis}
-use Rattle.stability.specs.declared.Verdict.{Verdict}
 use Rattle.stability.specs.Verdict.{judgementCode, verdictOf}
 use Rattle.stability.specs.Exact.{EveryAngle}
 use Rattle.stability.specs.Demand.{Demand3}
 use Rattle.stability.specs.Margins.{Margins}
-use Rattle.text.specs.Codes.{LetterOrDigit}
+use Rattle.text.specs.declared.Number.the-variants.{Is}
+use Rattle.text.specs.Token.{numberOf}
+use Rattle.text.specs.Codes.{LetterOrDigit, NumberIs}
 use Rattle.request.specs.declared.Kind.the-variants.{ShipLine, ColumnLine, LoadLine, HoldLine, DropLine, JudgeLine, ClearLine}
-use Rattle.reply.specs.Shown.{AnswerShown, RefusalShown, Writable, VerdictShown}
+use Rattle.reply.specs.Written.{over}
+use Rattle.reply.specs.Shown.{AtFront, AnswerShown, RefusalShown, VerdictShown}
 use Rattle.condition.specs.declared.Condition.{Condition}
 use Rattle.condition.specs.Condition.{empty}
+use Rattle.condition.specs.Empty.{Nothing}
 use Rattle.panel.specs.Judge.{weight}
 use Rattle.panel.specs.Step.{Outcome, stepOf, Sent, conditionAfter, outcomes}
-use Rattle.panel.specs.Within.{Within, Complete}
+use Rattle.panel.specs.Within.{Places, InRanges, Within, Complete}
 use Rattle.panel.specs.Codes.{request, Asks, ByOperation}
 use Rattle.panel.specs.Runs.{FirstRun, SecondRun}
 
@@ -64,13 +69,6 @@ SameLoad c after = (after .loaded ≡ c .loaded) × (after .load ≡ c .load)
 abbrev pub OtherPlaces : ℕ → Condition → Condition → Type 0
 OtherPlaces n c after = (m : ℕ) → 1 ≤ m → m ≤ 16 → (m ≡ n → ⊥) → getD (after .holds) (m - 1) noHold ≡ getD (c .holds) (m - 1) noHold
 
--- nothing is held: no ship, no load, no column, no hold
-pub record Nothing (c : Condition) : Type 0 where
-  pub ship : c .shipped ≡ false
-  pub load : c .loaded ≡ false
-  pub columns : length (held (c .columns)) ≡ 0
-  pub holds : (n : ℕ) → 1 ≤ n → n ≤ 16 → getD (c .holds) (n - 1) noHold .head .count ≡ 0
-
 pub record Stores (c : Condition) (line : List ℕ) (after : Condition) : Type 0 where
   pub ship :
       (s : Ship) → request line .kind ≡ ShipLine s →
@@ -80,13 +78,16 @@ pub record Stores (c : Condition) (line : List ℕ) (after : Condition) : Type 0
       (after .loaded ≡ true) × (after .load ≡ l) × SameShip c after × (after .columns ≡ c .columns) × (after .holds ≡ c .holds)
   pub column :
       request line .kind ≡ ColumnLine → length (c .columns .places) ≡ 20 →
-      (held (after .columns) ≡ held (c .columns) ++ request line .column ∷ []) × SameShip c after × SameLoad c after × (after .holds ≡ c .holds)
+      (held (after .columns) ≡ held (c .columns) ++ request line .column ∷ [])
+      × SameShip c after × SameLoad c after × (after .holds ≡ c .holds)
   pub hold :
       (n : ℕ) → request line .kind ≡ HoldLine n → length (c .holds) ≡ 16 →
-      (getD (after .holds) (n - 1) noHold ≡ request line .hold) × OtherPlaces n c after × SameShip c after × SameLoad c after × (after .columns ≡ c .columns)
+      (getD (after .holds) (n - 1) noHold ≡ request line .hold)
+      × OtherPlaces n c after × SameShip c after × SameLoad c after × (after .columns ≡ c .columns)
   pub drop :
       (n : ℕ) → request line .kind ≡ DropLine n → length (c .holds) ≡ 16 →
-      (getD (after .holds) (n - 1) noHold .head .count ≡ 0) × OtherPlaces n c after × SameShip c after × SameLoad c after × (after .columns ≡ c .columns)
+      (getD (after .holds) (n - 1) noHold .head .count ≡ 0)
+      × OtherPlaces n c after × SameShip c after × SameLoad c after × (after .columns ≡ c .columns)
   pub judge : request line .kind ≡ JudgeLine → after ≡ c
   pub clear : request line .kind ≡ ClearLine → Nothing after
 
@@ -94,21 +95,19 @@ abbrev pub RecordsAreStored : Type 0
 RecordsAreStored =
     (c : Condition) (line : List ℕ) (lent : ℕ) → stepOf c line lent .code ≡ 0 → Stores c line (stepOf c line lent .after)
 
--- the reply shows the code: none under 96 bytes; `(answer CC)` for every line but judge; for judge `(verdict CC)` with 30 to 34 and
--- `(verdict CC GM DIFF UPPER AREA)` with 00 and 40 to 43
-pub data JudgeShows (o : Outcome) : Type 0 where
-  refusal : isOneOf (30 ∷ 31 ∷ 32 ∷ 33 ∷ 34 ∷ []) (o .code) ≡ true → RefusalShown (o .code) (o .reply) → JudgeShows o
-  verdict :
-      isOneOf (0 ∷ 40 ∷ 41 ∷ 42 ∷ 43 ∷ []) (o .code) ≡ true → (v : Verdict) →
-      (Writable (v .gm) (v .diff) (v .upper) (v .area) → VerdictShown (o .code) (v .gm) (v .diff) (v .upper) (v .area) (o .reply)) → JudgeShows o
-
+-- the reply shows the code: none under 96 bytes; `(answer CC)` for every line but judge; `(verdict CC)` for judge with 30 to 34. What judge
+-- shows with 00 and 40 to 43 is demand 3
 pub record Shows (line : List ℕ) (lent : ℕ) (o : Outcome) : Type 0 where
   pub short : lent < 96 → o .reply ≡ []
-  pub judge : Asks line lent JudgeLine → JudgeShows o
+  pub judge : Asks line lent JudgeLine → isOneOf (30 ∷ 31 ∷ 32 ∷ 33 ∷ 34 ∷ []) (o .code) ≡ true → RefusalShown (o .code) (o .reply)
   pub other : 96 ≤ lent → (Asks line lent JudgeLine → ⊥) → AnswerShown (o .code) (o .reply)
 
 abbrev pub RepliesShowTheCode : Type 0
 RepliesShowTheCode = (c : Condition) (line : List ℕ) (lent : ℕ) → Shows line lent (stepOf c line lent)
+
+-- the contract of the step writes `over reply buffer`: the reply at the front of the lent buffer, and behind it the bytes that were there
+abbrev pub WrittenAtFront : Type 0
+WrittenAtFront = (reply buffer : List ℕ) → length reply ≤ length buffer → AtFront reply buffer (over reply buffer)
 
 -- a panel newly started holds nothing
 abbrev pub StartsEmpty : Type 0
@@ -125,6 +124,10 @@ ClearStartsAnew =
     ≡ outcomes c earlier ++ stepOf (conditionAfter c earlier) line lent ∷ outcomes empty later)
 
 -- ---- Demand 2
+
+-- the number that is read of a run is the one whose digits it has
+abbrev pub NumbersAreRead : Type 0
+NumbersAreRead = (r : List ℕ) (n : ℕ) → (numberOf r ≡ Is n) ↔ NumberIs n r
 
 -- spaces are free: a column, or any record, means the same whoever typed it. A space more, anywhere but between two letters or digits,
 -- changes no outcome of a line that stays within 2,000 bytes
@@ -158,7 +161,7 @@ pub record Judges (c : Condition) (o : Outcome) : Type 0 where
   pub from : basis .low .d ≤ c .load .d
   pub to : c .load .d ≤ basis .high .d
   pub load : basis .load ≡ c .load
-  pub weight : TotalWeight c (basis .weight)
+  pub weight : basis .weight ≡ weight c
   pub code : o .code ≡ judgementCode (verdictOf (c .ship) basis .judgement)
   pub shown :
       VerdictShown (o .code) (verdictOf (c .ship) basis .gm) (verdictOf (c .ship) basis .diff) (verdictOf (c .ship) basis .upper)
@@ -175,6 +178,10 @@ VerdictsHold =
 abbrev pub ReachedAreWithin : Type 0
 ReachedAreWithin = (ls : List Sent) → Within (conditionAfter empty ls)
 
+-- and so is every one whose records are in the paper's ranges: "within its limits" leaves none of them out
+abbrev pub RangesAreWithin : Type 0
+RangesAreWithin = (c : Condition) → Places c → InRanges c → Within c
+
 -- ---- all of them
 pub record Demands : Type 0 where
   pub codesArePrinted : CodesArePrinted
@@ -182,13 +189,16 @@ pub record Demands : Type 0 where
   pub refusalsChangeNothing : RefusalsChangeNothing
   pub recordsAreStored : RecordsAreStored
   pub repliesShowTheCode : RepliesShowTheCode
+  pub writtenAtFront : WrittenAtFront
   pub startsEmpty : StartsEmpty
   pub clearStartsAnew : ClearStartsAnew
   pub firstRun : FirstRun
   pub secondRun : SecondRun
   pub spacesAreFree : SpacesAreFree
+  pub numbersAreRead : NumbersAreRead
   pub weightIsTotal : WeightIsTotal
   pub verdictsHold : VerdictsHold
   -- what is said of each stretch is said of each angle (stability/specs/Exact.antt)
   pub everyAngle : EveryAngle
   pub reachedAreWithin : ReachedAreWithin
+  pub rangesAreWithin : RangesAreWithin

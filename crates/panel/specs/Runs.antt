@@ -1,7 +1,9 @@
 -- Two worked runs of a panel newly started, as computed claims about the definitions. The first is document 01's. The figures of the
--- second leave no slip alone: unlike columns with D between them; EDGE below 1,200 under `new`; an `old` ship with D 940, where the
--- heeling arm at 1,200 is W itself, so that DIFF shows W to the unit; wings, hatches and void cells, an excess that moves past a cell
--- with room, a void that does not fit; FLOOD inside a step; each of 40 to 43 once, and a DIFF below zero beyond UPPER with 00.
+-- second are chosen so that a slip in any rule of depths, shifted voids, weights, arms or verdict changes a reply, and so that two fields
+-- read in each other's place do (but VOID and GRAIN, which no figure takes, and EDGE under `old`): unlike columns with D between them;
+-- EDGE below 1,200 under `new`; an `old` ship with D 940, where the heeling arm at 1,200 is W itself, so that DIFF shows W to the unit;
+-- wings, hatches and void cells, an excess that moves past a cell with room, a void that does not fit; FLOOD inside a step; each of 40
+-- to 43 once, and a DIFF below zero beyond UPPER with 00.
 use mathlib.Core.Path.{_≡_}
 use mathlib.Core.List.{List, [], _∷_, map}
 use Prim.Native.String.{String}

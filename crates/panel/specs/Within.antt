@@ -5,9 +5,10 @@ use mathlib.Core.List.{List, [], _∷_}
 use Prim.Native.Nat.{ℕ, _+_, _-_, _≤_, _<_}
 use lib.ListN.{length, getD}
 use Rattle.record.specs.declared.Column.{Column}
-use Rattle.record.specs.declared.Part.{Part}
 use Rattle.record.specs.Held.{held}
-use Rattle.record.specs.Filler.{noColumn, noHold}
+use Rattle.record.specs.Filler.{noColumn, noPart, noHold}
+use Rattle.limits.specs.Ranges.{ShipRange, LoadRange, ColumnRange, HoldRange}
+use Rattle.grain.specs.Figures.{HoldFits}
 use Rattle.condition.specs.declared.Condition.{Condition}
 use Rattle.condition.specs.Condition.{empty, isHeld}
 use Rattle.panel.specs.Operations.{shipOperation, loadOperation, columnOperation, holdOperation}
@@ -18,19 +19,34 @@ abbrev pub ColumnsTaken : Condition → List Column → Type 0
 ColumnsTaken c [] = Unit {0}
 ColumnsTaken c (k ∷ ks) = (columnOperation c k .code ≡ 0) × ColumnsTaken (columnOperation c k .after) ks
 
--- Array lengths as the type has them; and each record, the columns in their order, sent to the empty condition, is taken with
--- 00. (The counts of columns, parts and cells are within that.)
-pub record Within (c : Condition) : Type 0 where
+-- array lengths as the type has them, and no more columns than places
+pub record Places (c : Condition) : Type 0 where
   pub holdPlaces : length (c .holds) ≡ 16
   pub columnPlaces : length (c .columns .places) ≡ 20
   pub columnCount : c .columns .count ≤ 20
-  pub knPlaces : (i : ℕ) → i < c .columns .count → (k : Column) → length (getD (c .columns .places) i k .kn) ≡ 10
+  pub knPlaces : (i : ℕ) → i < c .columns .count → length (getD (c .columns .places) i noColumn .kn) ≡ 10
   pub partPlaces : (n : ℕ) → n < 16 → length (getD (c .holds) n noHold .parts) ≡ 6
-  pub cellPlaces : (n : ℕ) → n < 16 → (i : ℕ) → i < 6 → (p : Part) → length (getD (getD (c .holds) n noHold .parts) i p .cells) ≡ 8
+  pub cellPlaces : (n : ℕ) → n < 16 → (i : ℕ) → i < 6 → length (getD (getD (c .holds) n noHold .parts) i noPart .cells) ≡ 8
+
+-- within its limits: each record, the columns in their order, sent to the empty condition, is taken with 00
+pub record Within (c : Condition) : Type 0 where
+  pub places : Places c
   pub ship : c .shipped ≡ true → shipOperation empty (c .ship) .code ≡ 0
   pub load : c .loaded ≡ true → loadOperation empty (c .load) .code ≡ 0
   pub columns : ColumnsTaken empty (held (c .columns))
   pub holds : (n : ℕ) → n < 16 → isHeld (getD (c .holds) n noHold) ≡ true → holdOperation empty (n + 1) (getD (c .holds) n noHold) .code ≡ 0
+
+-- the same in the paper's numbers: each record in its ranges, each D above the one before, every void fits
+pub record InRanges (c : Condition) : Type 0 where
+  pub ship : c .shipped ≡ true → ShipRange (c .ship)
+  pub load : c .loaded ≡ true → LoadRange (c .load)
+  pub columns : (i : ℕ) → i < length (held (c .columns)) → ColumnRange (getD (held (c .columns)) i noColumn)
+  pub rising :
+      (i : ℕ) → i + 1 < length (held (c .columns)) →
+      getD (held (c .columns)) i noColumn .d < getD (held (c .columns)) (i + 1) noColumn .d
+  pub holds :
+      (n : ℕ) → n < 16 → 0 < getD (c .holds) n noHold .head .count →
+      HoldRange (getD (c .holds) n noHold) × HoldFits (getD (c .holds) n noHold)
 
 -- none of 30 to 33 applies, each said by its own words: a ship; two columns; a load; D neither below the first nor above the last
 -- column

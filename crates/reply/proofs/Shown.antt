@@ -1,18 +1,20 @@
 -- The replies of the definitions are the texts that the paper's words ask for.
-use mathlib.Core.Path.{_≡_, refl}
+use mathlib.Core.Path.{_≡_, refl, _∙_}
 use mathlib.Core.Bool.{Bool, true, false, cond}
 use mathlib.Core.List.{List, [], _∷_, _++_, append-assoc}
 use Prim.Native.Nat.{ℕ, zero, suc, _+_, _*_, _/_, _%_, _≤_, _<_}
 use native.Mathlib.Omega.{arith}
 use lib.Dec.{ltb}
 use lib.IntN.{ℤ, pos, negsuc}
+use lib.ListN.{length, drop, length-append, length-drop}
+use lib.Seq.{take-append-seam, drop-append-seam}
 use borrow.Author.Tests.{ltb-true, ltb-false, lt-ltb}
 use Rattle.sign.specs.Sign.{plus, minus}
 use Rattle.whole.specs.Bytes.{bytes}
 use Rattle.whole.specs.Decimal.{Decimal, one, more}
-use Rattle.reply.specs.Written.{digits, decimal, figure, twoDigits}
+use Rattle.reply.specs.Written.{over, digits, decimal, figure, twoDigits}
 use Rattle.reply.specs.Replies.{answerReply, refusalReply, verdictReply}
-use Rattle.reply.specs.Shown.{FigureShown, CodeShown, AnswerShown, RefusalShown, Writable, VerdictShown}
+use Rattle.reply.specs.Shown.{AtFront, FigureShown, CodeShown, AnswerShown, RefusalShown, Writable, VerdictShown}
 
 -- ten to the k-th
 abbrev tenTo : ℕ → ℕ
@@ -72,4 +74,14 @@ verdict-shown code gm diff upper area w =
       upperShown = decimal-shown upper (w .upperAbove);
       areaShown = decimal-shown area (w .areaAbove);
       text = nested (bytes "(verdict ") (twoDigits code) (bytes " ") (figure gm) (bytes " ") (figure diff) (bytes " ") (decimal upper) (bytes " ") (decimal area) (bytes ")\n");
+    }
+
+-- ---- the buffer
+pub at-front : (w l : List ℕ) → length w ≤ length l → AtFront w l (over w l)
+unfolding over
+at-front w l h =
+    record {
+      front = take-append-seam w (drop (length w) l);
+      behind = drop-append-seam w (drop (length w) l);
+      long = length-append w (drop (length w) l) ∙ let n = length-drop (length w) l in omega arith;
     }

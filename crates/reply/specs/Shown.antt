@@ -4,9 +4,16 @@ use mathlib.Core.Path.{_≡_}
 use mathlib.Core.List.{List, _∷_, _++_}
 use Prim.Native.Nat.{ℕ, suc, _+_, _*_, _<_}
 use lib.IntN.{ℤ, pos, negsuc}
+use lib.ListN.{length, take, drop}
 use Rattle.sign.specs.Sign.{plus, minus}
 use Rattle.whole.specs.Bytes.{bytes}
 use Rattle.whole.specs.Decimal.{Decimal}
+
+-- the buffer `after` is `before` with a reply at its front: the bytes behind the reply keep their contents
+pub record AtFront (reply before after : List ℕ) : Type 0 where
+  pub front : take (length reply) after ≡ reply
+  pub behind : drop (length reply) after ≡ drop (length reply) before
+  pub long : length after ≡ length before
 
 -- a figure in its decimal digits; one below zero carries a minus sign
 abbrev pub FigureShown : ℤ → List ℕ → Type 0

@@ -1,5 +1,5 @@
--- Demand 3: when each code is given, by the figures shown; and what it says of the exact values. Said of the two columns around D, a
--- load and a weight moment within their limits, and of every ship.
+-- Demand 3: when each code is given, by the figures shown; and what it says of the exact values. Proved of every ship and of every basis
+-- that is `Judgeable`.
 use mathlib.Core.Path.{_≡_}
 use mathlib.Core.Bool.{true}
 use mathlib.Core.Logic.{_↔_}

@@ -45,7 +45,7 @@ pub record UpperIs (s : Ship) (ten : ℕ → ℤ) (u : ℕ) : Type 0 where
   pub least : (k : ℕ) → k < peak → Under (ten k) (ten peak)
   pub is : u ≡ min (s .flood) (angleOf peak)
 
--- a is AREA up to u: the sum of nine stretches under the lines through the ten DIFFs, each rounded down
+-- a is AREA: the area above zero from 0 to u, the sum of nine stretches under the lines through the ten DIFFs, each rounded down
 pub record AreaIs (ten : ℕ → ℤ) (u a : ℕ) : Type 0 where
   pub part : ℕ → ℕ
   pub low : (k : ℕ) → k < 9 → part k ≼ exactStretch 1 (λ j. plus (ten j)) (λ j. minus (ten j)) u k

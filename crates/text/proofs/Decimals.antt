@@ -1,6 +1,7 @@
 -- A run says a number exactly where it is the decimal digits of one up to 999,999,999.
 use mathlib.Core.Path.{_≡_, refl, sym, _∙_, ap}
-use mathlib.Core.Bool.{Bool, true, false, not, _&&_}
+use mathlib.Core.Bool.{Bool, true, false, cond, not, _&&_}
+use mathlib.Core.Logic.{_↔_}
 use mathlib.Core.List.{List, [], _∷_, _++_, append-assoc, append-nil}
 use Prim.Native.Nat.{ℕ, _+_, _*_, _-_, _≤_, _<_}
 use native.Mathlib.Omega.{arith}
@@ -9,7 +10,9 @@ use lib.ListN.{length, getD, length-append, List·getD-append}
 use borrow.Author.Tests.{eqb-false, le-leb, leb-true, not-true}
 use Rattle.whole.specs.Lists.{all}
 use Rattle.whole.proofs.Lists.{and-true, within-true, within-by, all-append}
-use Rattle.text.specs.Token.{isDigit, valueFrom, value, needlessZero, isNumber}
+use Rattle.text.specs.declared.Number.the-variants.{Is, Bad}
+use Rattle.text.specs.Token.{isDigit, valueFrom, value, needlessZero, isNumber, numberOf}
+use Rattle.text.specs.Codes.{NumberIs}
 use Rattle.whole.specs.Decimal.{Decimal, one, more}
 use Rattle.text.proofs.Numbers.{needless}
 
@@ -85,3 +88,15 @@ number-decimal (b ∷ s) e =
     let q = and-true (all isDigit (b ∷ s) && not (needlessZero (b ∷ s))) (leb (value (b ∷ s)) 999999999) e in
     let d = and-true (all isDigit (b ∷ s)) (not (needlessZero (b ∷ s))) (q .0) in
     (leb-true (value (b ∷ s)) 999999999 (q .1), written b s (d .0) (d .1))
+
+-- ---- the number that is read of a run is the one that it says
+number-by : (r : List ℕ) (n : ℕ) (x : Bool) → isNumber r ≡ x → cond x (Is (value r)) Bad ≡ Is n → NumberIs n r
+number-by r n true e f =
+    let v : value r ≡ n = cc in
+    let d = number-decimal r e in
+    (rw v at (d .0), rw v at (d .1))
+number-by r n false e f = let z : _≡_ {A = ℕ} 0 1 = cc in absurd (omega arith)
+
+pub number-is : (r : List ℕ) (n : ℕ) → (numberOf r ≡ Is n) ↔ NumberIs n r
+unfolding numberOf
+number-is r n = (λ e. number-by r n (isNumber r) refl e, λ (h, t). rw (decimal-number n r h t, says t .valued))

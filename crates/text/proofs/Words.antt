@@ -9,12 +9,11 @@ use lib.Dec.{eqb}
 use lib.ListN.{length, getD, take, drop, length-append, length-drop, take-append-drop, List·getD-append}
 use lib.Seq.{getD-append-add, length-take-le, take-length, drop-length}
 use Rattle.whole.specs.Lists.{all}
-use Rattle.whole.specs.Decimal.{Decimal}
 use Rattle.whole.proofs.Lists.{and-false, within-true, within-by, all-append, all-at}
 use Rattle.text.specs.Token.{Token, opened, closed, run, isLetter, isDigit, inRun, startsRun, glue, tokens, isNumber}
 use Rattle.text.specs.Line.{numberIfDigit, soundToken}
 use Rattle.text.specs.Places.{runLength}
-use Rattle.text.specs.Codes.{LetterOrDigit, letter, digit, Run, NoNumber}
+use Rattle.text.specs.Codes.{LetterOrDigit, letter, digit, NumberIs, Run, NoNumber}
 use Rattle.text.proofs.Runs.{run-token, run-within, sound, one-other, starts, one-long}
 use Rattle.text.proofs.Decimals.{decimal-number, number-decimal}
 
@@ -210,7 +209,7 @@ bad-found s e =
       run = b .run;
       low = d .low;
       high = d .high;
-      noNumber = λ m h t. let y = decimal-number m (b .word) h t in let z : _≡_ {A = ℕ} 0 1 = cc in omega arith;
+      noNumber = λ m (h, t). let y = decimal-number m (b .word) h t in let z : _≡_ {A = ℕ} 0 1 = cc in omega arith;
     }
 
 ends-none : (a : List ℕ) → (0 < length a → LetterOrDigit (getD a (length a - 1) 0) → ⊥) → ends a ≡ false
@@ -239,12 +238,12 @@ one-token w h f =
     run-token w (rw (append-nil w) at (starts-with w [] h (f 0 h)))
     ∙ rw (run-whole w f, take-length w, drop-length w)
 
-word-bad : (w : List ℕ) → 0 < length w → 48 ≤ getD w 0 0 → getD w 0 0 ≤ 57 → ((n : ℕ) → n ≤ 999999999 → Decimal n w → ⊥) → numberIfDigit w ≡ false
+word-bad : (w : List ℕ) → 0 < length w → 48 ≤ getD w 0 0 → getD w 0 0 ≤ 57 → ((n : ℕ) → NumberIs n w → ⊥) → numberIfDigit w ≡ false
 word-bad [] h p q f = absurd (omega arith)
 word-bad (b ∷ w) h p q f = rw (within-by 48 57 b p q) (by (isNumber (b ∷ w)) refl)
   where
     by : (y : Bool) → isNumber (b ∷ w) ≡ y → y ≡ false
-    by true e = let d = number-decimal (b ∷ w) e in absurd (f _ (d .0) (d .1))
+    by true e = let d = number-decimal (b ∷ w) e in absurd (f _ (d .0, d .1))
     by false e = refl
 
 pub no-number-fails : (s : List ℕ) → NoNumber s → sound s ≡ false

@@ -44,6 +44,10 @@ pub record OneForm (n : ℕ) (s : List ℕ) : Type 0 where
   pub is : Form n written
   pub line : s ≡ replicate before 32 ++ (written ++ replicate behind 32)
 
+-- a number of a line, from 0 to 999,999,999: its decimal digits, without needless leading zeros
+abbrev pub NumberIs : ℕ → List ℕ → Type 0
+NumberIs n r = (n ≤ 999999999) × Decimal n r
+
 -- r is a run of the line s: a longest stretch of letters and digits
 pub record Run (s r : List ℕ) : Type 0 where
   pub before : List ℕ
@@ -54,13 +58,13 @@ pub record Run (s r : List ℕ) : Type 0 where
   pub noneBefore : 0 < length before → LetterOrDigit (getD before (length before - 1) 0) → ⊥
   pub noneBehind : 0 < length behind → LetterOrDigit (getD behind 0 0) → ⊥
 
--- 13: a run beginning with a digit that is not a number from 0 to 999,999,999
+-- 13: a run beginning with a digit that is not a number from 0 to 999,999,999 without needless leading zeros
 pub record NoNumber (s : List ℕ) : Type 0 where
   pub word : List ℕ
   pub run : Run s word
   pub low : 48 ≤ getD word 0 0
   pub high : getD word 0 0 ≤ 57
-  pub noNumber : (n : ℕ) → n ≤ 999999999 → Decimal n word → ⊥
+  pub noNumber : (n : ℕ) → NumberIs n word → ⊥
 
 -- The codes of the entire line, each where none printed before it applies; 0 where none does.
 pub record LineCode (s : List ℕ) (code : ℕ) : Type 0 where
