@@ -93,6 +93,9 @@ def printed_limits(paper):
 
 
 def program_limits(crate):
-    """The same as the program of a crate hands them to the service."""
-    found = re.search(r"service::serve\((\d+), (\d+)\);", (support.CRATES / crate / "src" / "main.rt").read_text())
-    return found and tuple(int(number) for number in found.groups())
+    """The same as crates/lines names them, where the program of a crate hands these to the service."""
+    if "service::serve(lines::most_lines(), lines::most_bytes());" not in (support.CRATES / crate / "src" / "main.rt").read_text():
+        return None
+    named = (support.CRATES / "lines" / "specs" / "Lines.antt").read_text()
+    found = [re.search(rf"^{name} = (\d+)$", named, re.MULTILINE) for name in ("mostLines", "mostBytes")]
+    return tuple(int(one[1]) for one in found) if all(found) else None

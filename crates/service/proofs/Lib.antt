@@ -1,3 +1,1 @@
-pub mod Cutting
-pub mod Blocks
-pub mod Pieces
+pub mod Turns

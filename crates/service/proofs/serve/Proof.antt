@@ -1,19 +1,20 @@
-use mathlib.Core.Path.{_≡_, sym}
-use Prim.Native.Nat.{_≤_}
+use mathlib.Core.Path.{_≡_, refl, sym, _∙_}
+use mathlib.Core.Bool.{true, false, cond}
+use Prim.Native.Nat.{_+_, _-_, _*_, _≤_}
 use native.Mathlib.Omega.{arith}
-use lib.ListN.{length}
+use lib.ListN.{length, take, length-take}
 use lib.Seq.{length-take-le}
-use Rattle.service.specs.Feeding.{ReadSoFar}
-use Rattle.service.proofs.Pieces.{read-none, read-more}
+use Rattle.service.specs.Serving.{Turn}
+use Rattle.service.proofs.Turns.{not-both, used-up, serving-first, serving-fed, serving-read, over-asked, over-none, over-last}
 use borrow.Author.Needs.{needs}
 use Rattle.service.proofs.serve.Statement.{statement}
 use Rattle.service.proofs.serve.Tie as tie
 
 abbrev Inv-loop : tie.InvT-loop
-Inv-loop lines bytes block₀ line₀ out₀ f₀ more₀ block line out f more = (length block ≡ 65536) × (length line ≡ 2001) × (length out ≡ 65536) × (f .used ≤ 2001) × (f .filled ≤ 65000) × ReadSoFar lines bytes f line more
+Inv-loop max-lines max-bytes block₀ line₀ out₀ f₀ more₀ n₀ at₀ going₀ block line out f more n at going = Turn max-lines max-bytes block line out f more n at going
 
 abbrev μ-loop : tie.MeasureT-loop
-μ-loop lines bytes block₀ line₀ out₀ f₀ more₀ block line out f more = more
+μ-loop max-lines max-bytes block₀ line₀ out₀ f₀ more₀ n₀ at₀ going₀ block line out f more n at going = 2 * more + (n - at) + cond going 65537 0
 
 large-buffer-requires : tie.Need-large-buffer-requires Inv-loop μ-loop
 large-buffer-requires c κs = search needs
@@ -25,37 +26,26 @@ start-requires : tie.Need-start-requires Inv-loop μ-loop
 start-requires c κs = search needs
 
 loop-holds : tie.Need-loop-holds Inv-loop μ-loop
-loop-holds c = (search needs, search needs, search needs, search needs, search needs, read-none (c .before .before .before .args .lines) (c .before .before .before .args .bytes) (c .start .result) _ (c .start .ensures .0) (c .start .ensures .1))
-
-returns : tie.Need-returns Inv-loop μ-loop
-returns c = search needs
-
-smaller-requires : tie.Need-smaller-requires Inv-loop μ-loop
-smaller-requires c κs = search needs
-
-slice-aggregate-fetch : tie.Need-slice-aggregate-fetch Inv-loop μ-loop
-slice-aggregate-fetch c = search needs
-
-fetch-requires : tie.Need-fetch-requires Inv-loop μ-loop
-fetch-requires c κs = search needs
-
-slice-aggregate-finish : tie.Need-slice-aggregate-finish Inv-loop μ-loop
-slice-aggregate-finish c = search needs
-
-slice-aggregate-finish-2 : tie.Need-slice-aggregate-finish-2 Inv-loop μ-loop
-slice-aggregate-finish-2 c = search needs
-
-finish-requires : tie.Need-finish-requires Inv-loop μ-loop
-finish-requires c κs = search needs
-
-returns-2 : tie.Need-returns-2 Inv-loop μ-loop
-returns-2 c = search needs
+loop-holds c =
+    let a = c .before .before .before .args in
+    let s = c .start in
+    record {
+      blockLong = sym (c .before .before .large-buffer .ensures);
+      lineLong = search needs;
+      outLong = sym (c .before .large-buffer2 .ensures);
+      used = omega (arith, s .ensures .1);
+      waits = omega (arith, s .ensures .2);
+      came = omega arith;
+      written = λ e. s .ensures .2;
+      goes = λ e. serving-first (a .max-lines) (a .max-bytes) (s .result) _ _ (s .ensures .0) (s .ensures .1) (s .ensures .2);
+      stops = λ e. not-both true refl e;
+    }
 
 array-share-prefix-block : tie.Need-array-share-prefix-block Inv-loop μ-loop
 array-share-prefix-block c = search needs
 
 slice-aggregate-feed-block : tie.Need-slice-aggregate-feed-block Inv-loop μ-loop
-slice-aggregate-feed-block c = sym (length-take-le _ _ (omega arith))
+slice-aggregate-feed-block c = sym (length-take-le _ _ (omega (arith, c .before .before .before .loop .inv .came, c .before .before .before .loop .inv .blockLong)))
 
 slice-aggregate-feed-block-2 : tie.Need-slice-aggregate-feed-block-2 Inv-loop μ-loop
 slice-aggregate-feed-block-2 c = search needs
@@ -64,63 +54,189 @@ slice-aggregate-feed-block-3 : tie.Need-slice-aggregate-feed-block-3 Inv-loop μ
 slice-aggregate-feed-block-3 c = search needs
 
 feed-block-requires : tie.Need-feed-block-requires Inv-loop μ-loop
-feed-block-requires c κs = search needs
+feed-block-requires c κs =
+    let l = c .before .before .before .before .before .loop in
+    let v = l .inv in (
+      omega (arith, c .before .before .before .if1 .taken, length-take (l .n) (l .block), v .came, v .blockLong),
+      record { waits = omega (arith, v .written (c .before .before .before .before .loop-test .taken)); output = v .outLong; begun = v .used; long = v .lineLong },
+    )
 
-slice-aggregate-flush : tie.Need-slice-aggregate-flush Inv-loop μ-loop
-slice-aggregate-flush c = search needs
+array-share-prefix-out : tie.Need-array-share-prefix-out Inv-loop μ-loop
+array-share-prefix-out c = omega (arith, c .before .before .feed-block .ensures .room, c .before .before .feed-block .kept .1 .1 .1 .1 .0, c .before .before .before .before .before .before .before .before .loop .inv .outLong)
 
-flush-requires : tie.Need-flush-requires Inv-loop μ-loop
-flush-requires c κs = search needs
+slice-aggregate-write-out : tie.Need-slice-aggregate-write-out Inv-loop μ-loop
+slice-aggregate-write-out c = sym (length-take-le _ _ (omega (arith, c .before .before .before .feed-block .ensures .room, c .before .before .before .feed-block .kept .1 .1 .1 .1 .0, c .before .before .before .before .before .before .before .before .before .loop .inv .outLong)))
 
-returns-3 : tie.Need-returns-3 Inv-loop μ-loop
-returns-3 c = search needs
+write-out-requires : tie.Need-write-out-requires Inv-loop μ-loop
+write-out-requires c κs = search needs
 
-sub-more : tie.Need-sub-more Inv-loop μ-loop
-sub-more c =
-    let h : c .before .before .before .before .before .before .before .before .before .before .before .before .fetch .result ≤ c .before .before .before .before .before .before .before .before .before .before .before .before .before .before .before .before .before .loop .more = omega (arith, c .before .before .before .before .before .before .before .before .before .before .before .before .fetch .ensures, c .before .before .before .before .before .before .before .before .before .before .before .before .before .before .smaller .ensures) in search needs
+returns : tie.Need-returns Inv-loop μ-loop
+returns c = search needs
+
+emptied-requires : tie.Need-emptied-requires Inv-loop μ-loop
+emptied-requires c κs = search needs
 
 loop-less : tie.Need-loop-less Inv-loop μ-loop
-loop-less c =
-    let h : c .before .before .before .before .before .before .before .before .before .before .before .before .fetch .result ≤ c .before .before .before .before .before .before .before .before .before .before .before .before .before .before .before .before .before .loop .more = omega (arith, c .before .before .before .before .before .before .before .before .before .before .before .before .fetch .ensures, c .before .before .before .before .before .before .before .before .before .before .before .before .before .before .smaller .ensures) in omega arith
+loop-less c = omega (arith, c .before .before .before .before .before .before .feed-block .ensures .onward, c .before .before .before .before .before .before .before .before .before .before .if1 .taken)
 
 loop-again : tie.Need-loop-again Inv-loop μ-loop
 loop-again c =
-    let h : c .before .before .before .before .before .before .before .before .before .before .before .before .fetch .result ≤ c .before .before .before .before .before .before .before .before .before .before .before .before .before .before .before .before .before .loop .more = omega (arith, c .before .before .before .before .before .before .before .before .before .before .before .before .fetch .ensures, c .before .before .before .before .before .before .before .before .before .before .before .before .before .before .smaller .ensures) in
-    let l : c .before .before .before .before .before .before .before .before .before .before .before .before .fetch .result ≤ 65536 = omega (arith, c .before .before .before .before .before .before .before .before .before .before .before .before .fetch .ensures, c .before .before .before .before .before .before .before .before .before .before .before .before .before .before .smaller .ensures) in (
-      search needs,
-      search needs,
-      search needs,
-      omega (arith, c .before .before .flush .ensures .1, c .before .before .before .before .before .before .feed-block .ensures .0 .kept, c .before .before .before .before .before .before .feed-block .ensures .0 .enough, c .before .before .before .before .before .before .before .before .before .before .before .before .before .before .before .before .before .loop .inv .3),
-      search needs,
-      read-more (c .before .before .before .before .before .before .before .before .before .before .before .before .before .before .before .before .before .before .before .before .before .args .lines) (c .before .before .before .before .before .before .before .before .before .before .before .before .before .before .before .before .before .before .before .before .before .args .bytes) (c .before .before .before .before .before .before .before .before .before .before .before .before .before .before .before .before .before .loop .more) (c .before .before .before .before .before .before .before .before .before .before .before .before .fetch .result) (c .before .before .before .before .before .before .before .before .before .before .before .before .before .before .before .before .before .loop .f) (c .before .before .before .before .before .before .feed-block .result) (c .before .before .flush .result) _ _ _ (c .before .before .before .before .before .before .before .before .before .before .before .before .before .before .before .before .before .loop .inv .5) (c .before .before .before .before .before .before .feed-block .ensures .1) (sym (length-take-le _ _ (omega arith))) h (c .before .before .flush .ensures .3) (c .before .before .flush .ensures .2) (c .before .before .flush .ensures .1),
-    )
+    let l = c .before .before .before .before .before .before .before .before .before .before .before .before .loop in
+    let v = l .inv in
+    let b = c .before .before .before .before .before .before .feed-block in
+    let g = c .before .before .before .before .before .before .before .before .before .before .before .loop-test .taken in
+    rw (c .emptied .ensures) (record {
+      blockLong = v .blockLong;
+      lineLong = b .kept .1 .1 .1 .0 ∙ v .lineLong;
+      outLong = b .kept .1 .1 .1 .1 .0 ∙ v .outLong;
+      used = b .ensures .begun;
+      waits = omega arith;
+      came = v .came;
+      written = λ e. refl;
+      goes = λ e. serving-fed (v .goes g) (take (l .n) (l .block)) (l .at) (b .result) _ _ refl (b .ensures);
+      stops = λ e. not-both (l .going) g e;
+    })
 
-returns-4 : tie.Need-returns-4 Inv-loop μ-loop
-returns-4 c = search needs
+to-ask-requires : tie.Need-to-ask-requires Inv-loop μ-loop
+to-ask-requires c κs = search needs
 
-returns-5 : tie.Need-returns-5 Inv-loop μ-loop
-returns-5 c = search needs
+loop-less-2 : tie.Need-loop-less-2 Inv-loop μ-loop
+loop-less-2 c = rw (c .before .before .before .loop-test .taken) (omega arith)
 
-slice-aggregate-fetch-2 : tie.Need-slice-aggregate-fetch-2 Inv-loop μ-loop
-slice-aggregate-fetch-2 c = search needs
+loop-again-2 : tie.Need-loop-again-2 Inv-loop μ-loop
+loop-again-2 c =
+    let l = c .before .before .before .before .loop in
+    let v = l .inv in
+    let u = used-up (l .block) (l .n) (l .at) (omega (arith, c .before .before .if1 .left)) in
+    record {
+      blockLong = v .blockLong;
+      lineLong = v .lineLong;
+      outLong = v .outLong;
+      used = v .used;
+      waits = v .waits;
+      came = v .came;
+      written = λ e. not-both false e refl;
+      goes = λ e. not-both false e refl;
+      stops = λ e. over-asked (v .goes (c .before .before .before .loop-test .taken)) u (v .used) (v .lineLong) (l .n) (rw (c .if3 .taken) at (c .before .to-ask .ensures));
+    }
 
-fetch-requires-2 : tie.Need-fetch-requires-2 Inv-loop μ-loop
-fetch-requires-2 c κs = search needs
+slice-aggregate-fetch : tie.Need-slice-aggregate-fetch Inv-loop μ-loop
+slice-aggregate-fetch c = search needs
 
-slice-aggregate-finish-3 : tie.Need-slice-aggregate-finish-3 Inv-loop μ-loop
-slice-aggregate-finish-3 c = search needs
+fetch-requires : tie.Need-fetch-requires Inv-loop μ-loop
+fetch-requires c κs = omega (arith, c .before .before .to-ask .ensures .room, c .before .before .before .before .before .loop .inv .blockLong)
 
-slice-aggregate-finish-4 : tie.Need-slice-aggregate-finish-4 Inv-loop μ-loop
-slice-aggregate-finish-4 c = search needs
+tell-requires : tie.Need-tell-requires Inv-loop μ-loop
+tell-requires c κs p = omega (arith, c .before .fetch .ensures, c .before .before .before .before .to-ask .ensures .within p)
 
-finish-requires-2 : tie.Need-finish-requires-2 Inv-loop μ-loop
-finish-requires-2 c κs = search needs
+enum-told : tie.Need-enum-told Inv-loop μ-loop
+enum-told c = search needs
 
-returns-6 : tie.Need-returns-6 Inv-loop μ-loop
-returns-6 c = search needs
+sub-more : tie.Need-sub-more Inv-loop μ-loop
+sub-more c = let t = rw (c .enum-told .given .1) at (c .before .before .tell .ensures) in omega (arith, t)
 
-returns-7 : tie.Need-returns-7 Inv-loop μ-loop
-returns-7 c = search needs
+loop-less-3 : tie.Need-loop-less-3 Inv-loop μ-loop
+loop-less-3 c = let t = rw (c .enum-told .given .1) at (c .before .before .tell .ensures) in omega (arith, t, c .before .before .before .before .before .before .before .before .if1 .left)
+
+loop-again-3 : tie.Need-loop-again-3 Inv-loop μ-loop
+loop-again-3 c =
+    let l = c .before .before .before .before .before .before .before .before .before .before .loop in
+    let v = l .inv in
+    let n = c .before .before .before .before .fetch in
+    let t = rw (c .enum-told .given .1) at (c .before .before .tell .ensures) in
+    let u = used-up (l .block) (l .n) (l .at) (omega (arith, c .before .before .before .before .before .before .before .before .if1 .left)) in
+    let m : n .result ≤ 65536 = omega (arith, n .ensures, c .before .before .before .before .before .before .before .to-ask .ensures .room) in
+    record {
+      blockLong = n .kept .0 ∙ v .blockLong;
+      lineLong = v .lineLong;
+      outLong = v .outLong;
+      used = v .used;
+      waits = v .waits;
+      came = m;
+      written = v .written;
+      goes = λ e. serving-read (v .goes e) u (n .result) (take (n .result) (n .last .0)) (length-take-le (n .result) (n .last .0) (omega (arith, n .kept .0, v .blockLong))) (t .1);
+      stops = λ e. not-both (l .going) (c .before .before .before .before .before .before .before .before .before .loop-test .taken) e;
+    }
+
+enum-told-2 : tie.Need-enum-told-2 Inv-loop μ-loop
+enum-told-2 c = search needs
+
+loop-less-4 : tie.Need-loop-less-4 Inv-loop μ-loop
+loop-less-4 c = rw (c .before .before .before .before .before .before .before .before .before .loop-test .taken) (omega (arith, c .before .before .before .before .fetch .ensures, c .before .before .before .before .before .before .before .to-ask .ensures .room))
+
+loop-again-4 : tie.Need-loop-again-4 Inv-loop μ-loop
+loop-again-4 c =
+    let l = c .before .before .before .before .before .before .before .before .before .before .loop in
+    let v = l .inv in
+    let n = c .before .before .before .before .fetch in
+    let k = c .before .before .before .before .before .before .before .to-ask .ensures in
+    let t = rw (c .enum-told2 .given .1) at (c .before .before .tell .ensures) in
+    let u = used-up (l .block) (l .n) (l .at) (omega (arith, c .before .before .before .before .before .before .before .before .if1 .left)) in
+    let m : n .result ≤ 65536 = omega (arith, n .ensures, k .room) in
+    let p = k .lines (omega (arith, c .before .before .before .before .before .before .if3 .left)) in
+    record {
+      blockLong = n .kept .0 ∙ v .blockLong;
+      lineLong = v .lineLong;
+      outLong = v .outLong;
+      used = v .used;
+      waits = v .waits;
+      came = m;
+      written = λ e. not-both false e refl;
+      goes = λ e. not-both false e refl;
+      stops = λ e. over-none (v .goes (c .before .before .before .before .before .before .before .before .before .loop-test .taken)) u (v .used) (v .lineLong) (n .result) (take (n .result) (n .last .0)) (length-take-le (n .result) (n .last .0) (omega (arith, n .kept .0, v .blockLong))) p t;
+    }
+
+enum-told-3 : tie.Need-enum-told-3 Inv-loop μ-loop
+enum-told-3 c = search needs
+
+slice-aggregate-take-begun : tie.Need-slice-aggregate-take-begun Inv-loop μ-loop
+slice-aggregate-take-begun c = search needs
+
+slice-aggregate-take-begun-2 : tie.Need-slice-aggregate-take-begun-2 Inv-loop μ-loop
+slice-aggregate-take-begun-2 c = search needs
+
+take-begun-requires : tie.Need-take-begun-requires Inv-loop μ-loop
+take-begun-requires c κs =
+    let v = c .before .before .before .before .before .before .before .before .before .before .before .before .loop .inv in
+    record { waits = omega (arith, v .written (c .before .before .before .before .before .before .before .before .before .before .before .loop-test .taken)); output = v .outLong; begun = v .used; long = v .lineLong }
+
+loop-less-5 : tie.Need-loop-less-5 Inv-loop μ-loop
+loop-less-5 c = rw (c .before .before .before .before .before .before .before .before .before .before .before .before .before .before .loop-test .taken) (omega (arith, c .before .before .before .before .before .before .before .before .before .fetch .ensures, c .before .before .before .before .before .before .before .before .before .before .before .before .to-ask .ensures .room))
+
+loop-again-5 : tie.Need-loop-again-5 Inv-loop μ-loop
+loop-again-5 c =
+    let l = c .before .before .before .before .before .before .before .before .before .before .before .before .before .before .before .loop in
+    let v = l .inv in
+    let n = c .before .before .before .before .before .before .before .before .before .fetch in
+    let k = c .before .before .before .before .before .before .before .before .before .before .before .before .to-ask .ensures in
+    let b = c .before .before .take-begun in
+    let t = rw (c .before .before .before .before .before .enum-told3 .given .1) at (c .before .before .before .before .before .before .before .tell .ensures) in
+    let u = used-up (l .block) (l .n) (l .at) (omega (arith, c .before .before .before .before .before .before .before .before .before .before .before .before .before .if1 .left)) in
+    let m : n .result ≤ 65536 = omega (arith, n .ensures, k .room) in
+    let p = k .lines (omega (arith, c .before .before .before .before .before .before .before .before .before .before .before .if3 .left)) in
+    record {
+      blockLong = n .kept .0 ∙ v .blockLong;
+      lineLong = b .kept .1 .0 ∙ v .lineLong;
+      outLong = b .kept .1 .1 .0 ∙ v .outLong;
+      used = omega (arith, b .ensures .none);
+      waits = b .ensures .room;
+      came = m;
+      written = λ e. not-both false e refl;
+      goes = λ e. not-both false e refl;
+      stops = λ e. over-last (v .goes (c .before .before .before .before .before .before .before .before .before .before .before .before .before .before .loop-test .taken)) u (v .used) (v .lineLong) (n .result) (take (n .result) (n .last .0)) (length-take-le (n .result) (n .last .0) (omega (arith, n .kept .0, v .blockLong))) p t (b .result) _ (b .ensures);
+    }
+
+array-share-prefix-out-2 : tie.Need-array-share-prefix-out-2 Inv-loop μ-loop
+array-share-prefix-out-2 c = let v = c .before .loop .inv in omega (arith, v .waits, v .outLong)
+
+slice-aggregate-write-out-2 : tie.Need-slice-aggregate-write-out-2 Inv-loop μ-loop
+slice-aggregate-write-out-2 c = let v = c .before .before .loop .inv in sym (length-take-le _ _ (omega (arith, v .waits, v .outLong)))
+
+write-out-requires-2 : tie.Need-write-out-requires-2 Inv-loop μ-loop
+write-out-requires-2 c κs = search needs
+
+returns-2 : tie.Need-returns-2 Inv-loop μ-loop
+returns-2 c = search needs
 
 pub serve-spec : {M : Type 1} → statement M
 serve-spec =
@@ -132,31 +248,38 @@ serve-spec =
     large-buffer-requires-2
     start-requires
     loop-holds
-    returns
-    smaller-requires
-    slice-aggregate-fetch
-    fetch-requires
-    slice-aggregate-finish
-    slice-aggregate-finish-2
-    finish-requires
-    returns-2
     array-share-prefix-block
     slice-aggregate-feed-block
     slice-aggregate-feed-block-2
     slice-aggregate-feed-block-3
     feed-block-requires
-    slice-aggregate-flush
-    flush-requires
-    returns-3
-    sub-more
+    array-share-prefix-out
+    slice-aggregate-write-out
+    write-out-requires
+    returns
+    emptied-requires
     loop-less
     loop-again
-    returns-4
-    returns-5
-    slice-aggregate-fetch-2
-    fetch-requires-2
-    slice-aggregate-finish-3
-    slice-aggregate-finish-4
-    finish-requires-2
-    returns-6
-    returns-7)
+    to-ask-requires
+    loop-less-2
+    loop-again-2
+    slice-aggregate-fetch
+    fetch-requires
+    tell-requires
+    enum-told
+    sub-more
+    loop-less-3
+    loop-again-3
+    enum-told-2
+    loop-less-4
+    loop-again-4
+    enum-told-3
+    slice-aggregate-take-begun
+    slice-aggregate-take-begun-2
+    take-begun-requires
+    loop-less-5
+    loop-again-5
+    array-share-prefix-out-2
+    slice-aggregate-write-out-2
+    write-out-requires-2
+    returns-2)

@@ -1,5 +1,5 @@
 use mathlib.Core.Path.{refl}
-use Rattle.service.proofs.Blocks.{stands-start}
+use Rattle.lines.proofs.Blocks.{stands-start}
 use borrow.Author.Needs.{needs}
 use Rattle.service.proofs.start.Statement.{statement}
 use Rattle.service.proofs.start.Tie as tie
@@ -8,7 +8,7 @@ empty-condition-requires : tie.Need-empty-condition-requires
 empty-condition-requires c κs = search needs
 
 returns : tie.Need-returns
-returns c = (stands-start (c .before .args .lines) _ (c .empty-condition .ensures) refl, refl, refl, refl)
+returns c = (stands-start (c .before .args .left) _ (c .empty-condition .ensures) refl, refl, refl)
 
 pub start-spec : {M : Type 1} → statement M
 start-spec = tie.close (tie.spec empty-condition-requires returns)

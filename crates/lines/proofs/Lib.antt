@@ -1,0 +1,4 @@
+pub mod Cutting
+pub mod Blocks
+pub mod Pieces
+pub mod Limits

@@ -1,0 +1,62 @@
+use Rattle.lines.specs.Taking.{lineLength}
+use Rattle.lines.proofs.Cutting.{line-out, line-stop, line-on}
+use Prim.Native.Nat.{_≤_, _-_, _+_}
+use native.Mathlib.Omega.{arith}
+use mathlib.Core.Path.{_≡_}
+use lib.ListN.{length, drop}
+use borrow.Author.Needs.{needs}
+use Rattle.lines.proofs.last_end.Statement.{statement}
+use Rattle.lines.proofs.last_end.Tie as tie
+
+abbrev Inv-loop : tie.InvT-loop
+Inv-loop block at e₀ e = (at ≤ e) × (e ≤ length block) × (e + lineLength (drop e block) ≡ at + lineLength (drop at block))
+
+abbrev μ-loop : tie.MeasureT-loop
+μ-loop block at e₀ e = length block - e
+
+loop-holds : tie.Need-loop-holds Inv-loop μ-loop
+loop-holds c = search needs
+
+shared-slice-read-if1 : tie.Need-shared-slice-read-if1 Inv-loop μ-loop
+shared-slice-read-if1 c = search needs
+
+returns : tie.Need-returns Inv-loop μ-loop
+returns c =
+    let s = c .before .before .before .before .args .block .now in
+    let i = c .before .before .before .loop .e in
+    let z = line-stop s i (omega arith) (c .if1 .taken) in
+    (omega arith, omega arith)
+
+add-e : tie.Need-add-e Inv-loop μ-loop
+add-e c = search needs
+
+loop-less : tie.Need-loop-less Inv-loop μ-loop
+loop-less c = search needs
+
+loop-again : tie.Need-loop-again Inv-loop μ-loop
+loop-again c =
+    let s = c .before .before .before .before .args .block .now in
+    let i = c .before .before .before .loop .e in
+    let z = line-on s i (omega arith) (c .if1 .left) in
+    (omega arith, omega arith, omega arith)
+
+returns-2 : tie.Need-returns-2 Inv-loop μ-loop
+returns-2 c =
+    let s = c .before .before .args .block .now in
+    let i = c .before .loop .e in
+    let z = line-out s i (omega arith) in
+    (omega arith, omega arith)
+
+pub last-end-spec : {M : Type 1} → statement M
+last-end-spec =
+    tie.close
+    (tie.spec
+    Inv-loop
+    μ-loop
+    loop-holds
+    shared-slice-read-if1
+    returns
+    add-e
+    loop-less
+    loop-again
+    returns-2)

@@ -1,0 +1,262 @@
+// Lines taken from blocks of input, with their replies behind those that wait, and what the two limits say. Nothing here reads or writes.
+use condition::Condition;
+use panel::Heard;
+use panel::Replied;
+ghost use mathlib.Core.Path.{_≡_};
+ghost use mathlib.Core.List.{_++_};
+ghost use Prim.Native.Nat.{_+_, _-_, _≤_, _<_};
+ghost use lib.ListN.{length, take, drop};
+ghost use Rattle.panel.specs.Step.{heardOutcome};
+ghost use Rattle.lines.specs.Lines.{mostLines, mostBytes};
+ghost use Rattle.lines.specs.Taking.{lineLength, FromBlock, RepliedBehind, BegunTaken, Room, FirstMoved, BlockMoved};
+ghost use Rattle.lines.specs.Limits.{Asked, ToldIs};
+
+// What goes from block to block, beside the kept bytes of a line and the replies: the condition, the lines that may still be
+// taken, how many bytes of a line that has begun are kept, and how many bytes of replies wait.
+pub struct Feed {
+    pub cond: Condition,
+    pub left: u64,
+    pub used: usize,
+    pub filled: usize,
+}
+
+// The same, with the place in the block up to which lines were taken.
+pub struct Taken {
+    pub feed: Feed,
+    pub at: usize,
+}
+
+// What a read tells: the input goes on; the line that has begun is its last; no line more.
+pub enum Told {
+    Goes,
+    LastLine,
+    NoMore,
+}
+
+// ---- lines of a block
+
+// The place of the next byte 10 from `at` on, or the block's end: four bytes in a turn.
+fn line_end(block: &[u8], at: usize) -> usize
+    requires { ⌜ at ≤ length (now block) ⌝ }
+    ensures { λ r. ⌜ (r ≡ at + lineLength (drop at (now (block .entry)))) × (r ≤ length (now (block .entry))) ⌝ }
+{
+    let mut e = at;
+    while 4 <= block.len() - e {
+        if block[e] == 10 {
+            return e;
+        }
+        let second = e + 1;
+        if block[second] == 10 {
+            return second;
+        }
+        let third = second + 1;
+        if block[third] == 10 {
+            return third;
+        }
+        let fourth = third + 1;
+        if block[fourth] == 10 {
+            return fourth;
+        }
+        e = fourth + 1;
+    }
+    last_end(block, e)
+}
+
+// The same, byte by byte.
+fn last_end(block: &[u8], at: usize) -> usize
+    requires { ⌜ at ≤ length (now block) ⌝ }
+    ensures { λ r. ⌜ (r ≡ at + lineLength (drop at (now (block .entry)))) × (r ≤ length (now (block .entry))) ⌝ }
+{
+    let mut e = at;
+    while e < block.len() {
+        if block[e] == 10 {
+            return e;
+        }
+        e += 1;
+    }
+    e
+}
+
+// The place behind a byte of the block.
+fn behind(block: &[u8], at: usize) -> usize
+    requires { ⌜ at < length (now block) ⌝ }
+    ensures { λ r. ⌜ (r ≡ at + 1) × (r ≤ length (now (block .entry))) ⌝ }
+{
+    at + 1
+}
+
+// One line: its reply goes behind those that wait.
+fn answer_line(c: Condition, h: Heard, out: &mut [u8], filled: usize) -> Replied
+    requires { ⌜ (filled + 96 ≤ 65536) × (length (now out) ≡ 65536) ⌝ }
+    ensures { λ r. ⌜ RepliedBehind (heardOutcome c h 96) r filled (now (out .entry)) (now (out .exit)) ⌝ }
+{
+    panel::answer(c, h, &mut out[filled..])
+}
+
+// Takes the lines of a block from `at` on: up to the last that byte 10 ends, while lines are left and there is room for a reply.
+fn take_lines(f: Feed, block: &[u8], at: usize, out: &mut [u8]) -> Taken
+    requires { ⌜ (at ≤ length (now block)) × (f .filled ≤ 65536) × (length (now out) ≡ 65536) ⌝ }
+    ensures { λ r. ⌜ FromBlock f (now (block .entry)) at (now (out .entry)) r (now (out .exit)) ⌝ }
+{
+    let mut c = f.cond;
+    let mut left = f.left;
+    let mut filled = f.filled;
+    let used = f.used;
+    let mut i = at;
+    while 0 < left {
+        if 65440 < filled {
+            return stopped(c, left, used, filled, i);
+        }
+        let e = line_end(block, i);
+        if block.len() <= e {
+            return stopped(c, left, used, filled, i);
+        }
+        let h = panel::hear(&block[i..e]);
+        let r = answer_line(c, h, out, filled);
+        let long = r.len;
+        filled += long;
+        left -= 1;
+        i = behind(block, e);
+        if r.code == 0 {
+            let q = h.request;
+            c = panel::effect(c, q);
+        }
+    }
+    stopped(c, left, used, filled, i)
+}
+
+// Where the lines of a block stop.
+fn stopped(cond: Condition, left: u64, used: usize, filled: usize, at: usize) -> Taken
+    ensures { λ r. ⌜ r ≡ record { feed = record { cond = cond; left = left; used = used; filled = filled }; at = at } ⌝ }
+{
+    let feed = Feed {
+        cond,
+        left,
+        used,
+        filled,
+    };
+    Taken { feed, at }
+}
+
+// ---- the line that has begun, and the block's last
+
+// Keeps of a piece what has room behind the first `used` bytes of the line, 2,001 in all: how many are kept then.
+fn keep(line: &mut [u8], used: usize, piece: &[u8]) -> usize
+    requires { ⌜ (used ≤ 2001) × (length (now line) ≡ 2002) ⌝ }
+    ensures { λ r. ⌜ (take r (now (line .exit)) ≡ take 2001 (take used (now (line .entry)) ++ now (piece .entry))) × (r ≤ 2001) ⌝ }
+{
+    let mut u = used;
+    let mut i = 0;
+    while i < piece.len() {
+        if 2001 <= u {
+            return u;
+        }
+        line[u] = piece[i];
+        u += 1;
+        i += 1;
+    }
+    u
+}
+
+// The line that has begun is ended: with byte 10 behind it, it is taken as a block of its own.
+pub fn take_begun(f: Feed, line: &mut [u8], out: &mut [u8]) -> Feed
+    requires { ⌜ Room f (now line) (now out) ⌝ }
+    ensures { λ r. ⌜ BegunTaken f (take (f .used) (now (line .entry))) (take (f .filled) (now (out .entry))) r (take (r .filled) (now (out .exit))) ⌝ }
+{
+    let used = f.used;
+    line[used] = 10;
+    let end = used + 1;
+    let t = take_lines(f, &line[..end], 0, out);
+    let mut g = t.feed;
+    g.used = 0;
+    g
+}
+
+// The line that has begun in an earlier block, up to this block's first byte 10 from `at` on.
+fn first_line(f: Feed, block: &[u8], at: usize, line: &mut [u8], out: &mut [u8]) -> Taken
+    requires { ⌜ (at < length (now block)) × Room f (now line) (now out) ⌝ }
+    ensures { λ r. ⌜ FirstMoved f (now (line .entry)) (now (out .entry)) (now (block .entry)) at r (now (line .exit)) (now (out .exit)) ⌝ }
+{
+    if f.used == 0 {
+        return Taken { feed: f, at };
+    }
+    let e = line_end(block, at);
+    let mut g = f;
+    g.used = keep(line, f.used, &block[at..e]);
+    if block.len() <= e {
+        return Taken { feed: g, at: e };
+    }
+    let feed = take_begun(g, line, out);
+    let next = behind(block, e);
+    Taken { feed, at: next }
+}
+
+// Takes the lines of a block from `at` on, the one that has begun first, and keeps what stands behind the last; where the replies
+// fill their buffer, the block goes on behind the lines that were taken.
+pub fn feed_block(f: Feed, block: &[u8], at: usize, line: &mut [u8], out: &mut [u8]) -> Taken
+    requires { ⌜ (at < length (now block)) × Room f (now line) (now out) ⌝ }
+    ensures { λ r. ⌜ BlockMoved f (now (line .entry)) (now (out .entry)) (now (block .entry)) at r (now (line .exit)) (now (out .exit)) ⌝ }
+{
+    let first = first_line(f, block, at, line, out);
+    let from = first.feed;
+    let t = take_lines(from, block, first.at, out);
+    let mut g = t.feed;
+    let all = block.len();
+    if g.left == 0 {
+        return Taken { feed: g, at: all };
+    }
+    if 65440 < g.filled {
+        return t;
+    }
+    let rest = t.at;
+    g.used = keep(line, g.used, &block[rest..]);
+    Taken { feed: g, at: all }
+}
+
+// ---- the limits
+
+// Document 01's limits of lines and bytes.
+pub fn most_lines() -> u64
+    ensures { λ r. ⌜ r ≡ mostLines ⌝ }
+{
+    4000000000
+}
+
+pub fn most_bytes() -> u64
+    ensures { λ r. ⌜ r ≡ mostBytes ⌝ }
+{
+    9000000000000
+}
+
+// How many bytes are asked for next, where `left` lines and `more` bytes may still come and `used` bytes of a line are kept.
+pub fn to_ask(left: u64, used: usize, more: u64) -> usize
+    ensures { λ r. ⌜ Asked left used more r ⌝ }
+{
+    if left == 0 {
+        return 0;
+    }
+    if 0 < more {
+        return choice::smaller(more, 65536) as usize;
+    }
+    if used == 0 {
+        return 0;
+    }
+    1
+}
+
+// What a read of `got` bytes tells.
+pub fn tell(used: usize, more: u64, got: usize) -> Told
+    requires { ⌜ (0 < more → got ≤ more) ⌝ }
+    ensures { λ r. ⌜ ToldIs used more got r ⌝ }
+{
+    if got == 0 {
+        if used == 0 {
+            return Told::NoMore;
+        }
+        return Told::LastLine;
+    }
+    if more == 0 {
+        return Told::NoMore;
+    }
+    Told::Goes
+}
