@@ -63,10 +63,10 @@ uncut-by : (b : ℕ) (s : List ℕ) (x : Bool) → eqb b 10 ≡ x → NoNewline 
 uncut-by b s true e n ih = absurd (n 0 (omega arith) (eqb-true b 10 e))
 uncut-by b s false e n ih = let h = ih (λ i h. n (suc i) (omega arith)) in omega arith
 
-pub uncut : (l : List ℕ) → NoNewline l → length l ≤ lineLength l
+pub bytes-before : (l : List ℕ) → NoNewline l → length l ≤ lineLength l
 unfolding lineLength
-uncut [] n = omega arith
-uncut (b ∷ s) n = uncut-by b s (eqb b 10) refl n (uncut s)
+bytes-before [] n = omega arith
+bytes-before (b ∷ s) n = uncut-by b s (eqb b 10) refl n (bytes-before s)
 
 newlines-by : (b : ℕ) (s : List ℕ) (x : Bool) → eqb b 10 ≡ x → suc (length s) ≤ cond x 0 (suc (lineLength s)) → (length s ≤ lineLength s → NoNewline s) → NoNewline (b ∷ s)
 newlines-by b s true e h ih i = absurd (omega arith)

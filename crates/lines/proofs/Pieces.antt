@@ -1,18 +1,17 @@
 -- Laws of the functions that take lines: what each gives moves the service by its piece of the input.
 use mathlib.Core.Path.{_≡_, refl, sym, _∙_, ap}
 use mathlib.Core.List.{List, [], _∷_, _++_, append-nil}
-use Prim.Native.Nat.{ℕ, zero, suc, _+_, _-_, _≤_, _<_}
+use Prim.Native.Nat.{ℕ, _+_, _-_, _≤_, _<_}
 use native.Mathlib.Omega.{arith}
 use native.Mathlib.Numerals.{add-one}
-use lib.ListN.{length, take, drop, set, length-append, length-take, length-drop, length-set}
-use lib.Seq.{take-all, take-nil, take-suc-set, take-set-le, length-take-le}
-use Rattle.whole.proofs.Lists.{drop-end}
-use Rattle.panel.specs.Step.{stepOf, conditionAfter}
+use lib.ListN.{length, take, drop, set, length-take, length-drop}
+use lib.Seq.{take-all, take-nil, take-suc-set}
+use Rattle.panel.specs.Step.{stepOf}
 use Rattle.lines.specs.declared.Feed.{Feed}
 use Rattle.lines.specs.declared.Taken.{Taken}
-use Rattle.lines.specs.Lines.{Cut, cut, NoNewline, sent, repliesTo}
+use Rattle.lines.specs.Lines.{Cut, cut, NoNewline}
 use Rattle.lines.specs.Taking.{lineLength, between, LinesTaken, FromBlock, LineTaken, BegunTaken, Moves, FirstMoved, BlockMoved}
-use Rattle.lines.proofs.Cutting.{uncut, cut-none, begun-newlines, cut-join, cut-line, front-none, none-sent, none-replied, one-sent, one-replied, front, between-on, between-none, line-uncut, line-with, taken-none, taken-more}
+use Rattle.lines.proofs.Cutting.{bytes-before, cut-none, begun-newlines, cut-join, cut-line, front-none, none-sent, none-replied, one-sent, one-replied, front, between-on, between-none, line-uncut, line-with, taken-none, taken-more}
 use Rattle.lines.proofs.Blocks.{by-count, no-lines, take-front, stands-full, stands-on, stands-lines, stands-line, moves-on}
 
 -- ---- the loop over a block's lines, at i
@@ -63,7 +62,7 @@ module _ (f : Feed) (kept block out after : List ℕ) (r : Taken) (same : block 
       let b = between-on block 0 (r .at) (length block) (omega arith) (t .inside) in
       let d : between block (r .at) (length block) ≡ drop (r .at) block = take-all (length block - r .at) (drop (r .at) block) (omega (arith, length-drop (r .at) block)) in
       let w : between block 0 (length block) ≡ block = take-all (length block - 0) block (omega arith) in
-      let k : cut (between block 0 (r .at) ++ drop (r .at) block) ≡ record { lines = kept ∷ []; rest = [] } = rw (← d, b, w, same) (cut-line kept (uncut kept n)) in
+      let k : cut (between block 0 (r .at) ++ drop (r .at) block) ≡ record { lines = kept ∷ []; rest = [] } = rw (← d, b, w, same) (cut-line kept (bytes-before kept n)) in
       let j = cut-join (between block 0 (r .at)) (drop (r .at) block) in
       let z : front [] (cut (drop (r .at) block)) ≡ cut (drop (r .at) block) = front-none (cut (drop (r .at) block) .lines) (cut (drop (r .at) block) .rest) in
       ap (λ (k : Cut). k .lines) (sym (rw (t .taken .whole, z) at j) ∙ k)
@@ -85,7 +84,7 @@ module _ (f : Feed) (kept block out after : List ℕ) (r : Taken) (same : block 
         taken = λ n p. one-of (cut passed .lines) (cut (drop (r .at) block) .lines) kept (begun-cut n)
             (λ z e. let s = none-passed z in
             let h = t .stopped (omega (arith, s .2)) (omega (arith, ap length (s .1), length-take (r .feed .filled) after, length-take (f .filled) out, t .room)) in
-            let k = cut-none (drop (r .at) block) (uncut (drop (r .at) block) h) in
+            let k = cut-none (drop (r .at) block) (bytes-before (drop (r .at) block) h) in
             absurd (omega (arith, ap length (sym e ∙ ap (λ (k : Cut). k .lines) k))))
             (λ z. record {
               condition = c ∙ t .taken .condition ∙ rw z (one-sent (f .cond) kept);
@@ -235,5 +234,5 @@ module _ {f : Feed} {line out block : List ℕ} {at : ℕ} {one : Taken} {line�
           inside = omega arith;
           begun = u;
           room = b .room;
-          moved = whole (b .inside) (stands-on (between block (t .at) (length block)) (rw d (uncut (drop (t .at) block) (b .stopped p h))) refl refl refl (λ p. k));
+          moved = whole (b .inside) (stands-on (between block (t .at) (length block)) (rw d (bytes-before (drop (t .at) block) (b .stopped p h))) refl refl refl (λ p. k));
         }

@@ -8,8 +8,8 @@ use Rattle.lines.specs.declared.Told.the-variants.{Goes, LastLine, NoMor
 use Rattle.lines.specs.Lines.{cut, linesOf}
 
 -- the lines that are taken so far: those that a byte 10 has ended
-abbrev pub ended : ℕ → List ℕ → List (List ℕ)
-ended lines input = take lines (cut input .lines)
+abbrev pub takenSoFar : ℕ → List ℕ → List (List ℕ)
+takenSoFar lines input = take lines (cut input .lines)
 
 -- an input was read: so many lines and bytes may still come, and of the line that has begun so many bytes are kept
 pub record HasRead (lines bytes : ℕ) (input : List ℕ) (left used more : ℕ) : Type 0 where
@@ -25,7 +25,7 @@ pub record Asked (left used more r : ℕ) : Type 0 where
   pub beyond : more ≡ 0 → r ≤ 1
   pub lines : 0 < r → 0 < left
   pub none : r ≡ 0 → (lines bytes : ℕ) (input later : List ℕ) → HasRead lines bytes input left used more →
-      linesOf lines bytes (input ++ later) ≡ ended lines input
+      linesOf lines bytes (input ++ later) ≡ takenSoFar lines input
   pub some : 0 < r → (lines bytes : ℕ) (input : List ℕ) → HasRead lines bytes input left used more →
       linesOf lines bytes (input ++ 0 ∷ []) ≡ linesOf lines bytes input → ⊥
 
@@ -40,7 +40,7 @@ abbrev pub ToldIs : (used more got : ℕ) → Told → Type 0
 ToldIs used more got Goes = (0 < got) × (got ≤ more)
 ToldIs used more got LastLine =
     (got ≡ 0) × ((lines bytes left : ℕ) (input : List ℕ) → 0 < left → HasRead lines bytes input left used more →
-    linesOf lines bytes input ≡ ended lines input ++ cut input .rest ∷ [])
+    linesOf lines bytes input ≡ takenSoFar lines input ++ cut input .rest ∷ [])
 ToldIs used more got NoMore =
     (lines bytes left : ℕ) (input later : List ℕ) → 0 < left → HasRead lines bytes input left used more → Follows got later →
-    linesOf lines bytes (input ++ later) ≡ ended lines input
+    linesOf lines bytes (input ++ later) ≡ takenSoFar lines input

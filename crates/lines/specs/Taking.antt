@@ -83,7 +83,8 @@ pub record Stands (most : ℕ) (input : List ℕ) (f : Feed) (kept replies : Lis
 -- replies were handed out before those that wait
 abbrev pub Moves : (f : Feed) (kept waited piece : List ℕ) (r : Feed) (after waits : List ℕ) → Type 0
 Moves f kept waited piece r after waits =
-    (most : ℕ) (input handed : List ℕ) → Stands most input f kept (handed ++ waited) → Stands most (input ++ piece) r after (handed ++ waits)
+    (most : ℕ) (input handed : List ℕ) →
+    Stands most input f kept (handed ++ waited) → Stands most (input ++ piece) r after (handed ++ waits)
 
 -- the line that had begun is ended by the first byte 10 of the block, or goes on to the block's end
 pub record FirstMoved (f : Feed) (line out block : List ℕ) (at : ℕ) (r : Taken) (line′ out′ : List ℕ) : Type 0 where
@@ -94,7 +95,8 @@ pub record FirstMoved (f : Feed) (line out block : List ℕ) (at : ℕ) (r : Tak
   pub room : r .feed .filled ≤ 65536
   pub waits : f .used ≡ 0 → r .feed .filled ≡ f .filled
   pub ended : r .at < length block → 0 < r .feed .left → r .feed .used ≡ 0
-  pub moved : Moves f (take (f .used) line) (take (f .filled) out) (between block at (r .at)) (r .feed) (take (r .feed .used) line′) (take (r .feed .filled) out′)
+  pub moved : Moves f (take (f .used) line) (take (f .filled) out) (between block at (r .at))
+      (r .feed) (take (r .feed .used) line′) (take (r .feed .filled) out′)
 
 -- lines of a block from `at` on: the line that had begun, those behind it, and what is kept of the block's last line
 pub record BlockMoved (f : Feed) (line out block : List ℕ) (at : ℕ) (r : Taken) (line′ out′ : List ℕ) : Type 0 where
@@ -102,4 +104,5 @@ pub record BlockMoved (f : Feed) (line out block : List ℕ) (at : ℕ) (r : Tak
   pub inside : r .at ≤ length block
   pub begun : r .feed .used ≤ 2001
   pub room : r .feed .filled ≤ 65536
-  pub moved : Moves f (take (f .used) line) (take (f .filled) out) (between block at (r .at)) (r .feed) (take (r .feed .used) line′) (take (r .feed .filled) out′)
+  pub moved : Moves f (take (f .used) line) (take (f .filled) out) (between block at (r .at))
+      (r .feed) (take (r .feed .used) line′) (take (r .feed .filled) out′)

@@ -10,8 +10,8 @@ use Rattle.lines.specs.declared.Feed.{Feed}
 use Rattle.lines.specs.Lines.{linesOf, sent, repliesTo}
 use Rattle.lines.specs.Taking.{Stands}
 
--- between two turns: of what was read, `more` bytes short of the limit, the lines of `input` were taken, and `rest` waits in the block; the
--- replies that were handed out and those that wait are together the replies to the lines taken
+-- between two turns: of what was read, `more` bytes short of the limit, the lines of `input` were taken, and `rest` waits in the block;
+-- the replies that were handed out and those that wait are together the replies to the lines taken
 pub record Serving (lines bytes : ℕ) (f : Feed) (line out rest : List ℕ) (more : ℕ) : Type 0 where
   pub read : List ℕ
   pub input : List ℕ
@@ -20,8 +20,8 @@ pub record Serving (lines bytes : ℕ) (f : Feed) (line out rest : List ℕ) (mo
   pub same : input ++ rest ≡ read
   pub stands : Stands lines input f (take (f .used) line) (handed ++ take (f .filled) out)
 
--- the service has stopped: whatever follows what was read (nothing, where the last read brought nothing), the lines that were taken are those
--- of the whole input within the limits, and the replies to them are those handed out and those that wait
+-- the service has stopped: whatever follows what was read (nothing, where the last read brought nothing), the lines that were taken
+-- are those of the whole input within the limits, and the replies to them are those handed out and those that wait
 pub record Over (lines bytes : ℕ) (f : Feed) (out : List ℕ) (got : ℕ) : Type 0 where
   pub read : List ℕ
   pub handed : List ℕ

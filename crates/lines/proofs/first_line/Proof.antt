@@ -1,4 +1,4 @@
-use mathlib.Core.Path.{refl, sym, _∙_}
+use mathlib.Core.Path.{refl}
 use native.Mathlib.Omega.{arith}
 use Rattle.lines.proofs.Pieces.{first-none, first-on, first-taken}
 use borrow.Author.Needs.{needs}

@@ -1,8 +1,7 @@
 use mathlib.Core.Path.{_≡_, refl, sym, _∙_}
-use Prim.Native.Nat.{_-_, _≤_, _<_}
+use Prim.Native.Nat.{_-_}
 use native.Mathlib.Omega.{arith}
-use lib.ListN.{length, take, drop}
-use Rattle.panel.specs.Step.{Outcome}
+use lib.ListN.{length}
 use Rattle.panel.proofs.Answers.{heard-as, answer-kept, answer-effect}
 use Rattle.lines.specs.Taking.{between}
 use Rattle.lines.proofs.Cutting.{no-line}
