@@ -58,19 +58,121 @@ new: ship = s; loaded = false; load
 file: crates/panel/src/lib.rt
 old:     after.ship = s;
 new:     after.ship = s; after.loaded = false;
+file: crates/panel/proofs/Reached.antt
+old: (record { ship = λ t. p; load = g .load;
+new: (record { ship = λ t. p; load = λ t. let z : _≡_ {A = ℕ} 0 1 = cc in absurd (omega arith);
+"""
+
+# ---- behind an edit: what the laws below a claim repeat of the definition, so that the claim itself is what refuses
+
+FLOOD_IN_LAWS = """
+file: proofs/Ranges.antt
+old: (within 1 9000 (s .flood)) e in
+new: (within 1 9999 (s .flood)) e in
+old: within-true 1 9000 (s .flood)
+new: within-true 1 9999 (s .flood)
+old: within-by 1 9000 (s .flood)
+new: within-by 1 9999 (s .flood)
+"""
+
+UPPER_IN_LAWS = """
+file: proofs/Codes.antt
+old: Tens.{angle-is}
+new: Tens.{angle-is, angle-le}
+old: or-either (failsAmong (heelLimit s) (upper (s .flood) (diffs b)) (diffs b) 10) _ e
+new: or-either (failsAmong (heelLimit s) 4000 (diffs b) 10) _ e
+old: ten : failsAmong (heelLimit s) (upper (s .flood) (diffs b)) (diffs b) 10 ≡ true
+new: ten : failsAmong (heelLimit s) 4000 (diffs b) 10 ≡ true
+old: failing (heelLimit s) u (diffs b) 10 f
+new: failing (heelLimit s) 4000 (diffs b) 10 f
+old: leb (angle j) u) (isBelow (tenOf b j)) (r .fails)
+new: leb (angle j) 4000) (isBelow (tenOf b j)) (r .fails)
+old: (leb (angle j) u) (t .0)
+new: (leb (angle j) 4000) (t .0)
+old: leb-true (angle j) u (v .1)
+new: leb-true (angle j) 4000 (v .1)
+old: failsAt (heelLimit s) u (diffs b) j ≡ true
+new: failsAt (heelLimit s) 4000 (diffs b) j ≡ true
+old: le-leb (angle j) u (rw (angle-is j) at r)
+new: le-leb (angle j) 4000 (angle-le j h)
+old: among-found (heelLimit s) u (diffs b) j 10 h e
+new: among-found (heelLimit s) 4000 (diffs b) j 10 h e
+old: or-right (failsAmong (heelLimit s) u (diffs b) 10)
+new: or-right (failsAmong (heelLimit s) 4000 (diffs b) 10)
+file: proofs/Demand3.antt
+old: Tens.{angle-is, angle-rises,
+new: Tens.{angle-is, angle-le, angle-rises,
+old: among-false heel up (diffs b) 10 (or-false (failsAmong heel up (diffs b) 10) _ e42 .0)
+new: among-false heel 4000 (diffs b) 10 (or-false (failsAmong heel 4000 (diffs b) 10) _ e42 .0)
+old: le-leb (angle j) up r) at f
+new: le-leb (angle j) 4000 (angle-le j h)) at f
+old: or-false (failsAmong heel up (diffs b) 10) (ltb heel up
+new: or-false (failsAmong heel 4000 (diffs b) 10) (ltb heel up
+"""
+
+AREA_LIMIT_IN_LAWS = """
+file: proofs/Codes.antt
+old: 429718347 ≡ t₄
+new: 429718348 ≡ t₄
+old: ltb-true (area (diffs b) (upper (s .flood) (diffs b))) 429718347
+new: ltb-true (area (diffs b) (upper (s .flood) (diffs b))) 429718348
+old: ltb-false (area (diffs b) (upper (s .flood) (diffs b))) 429718347 e₄
+new: omega (arith, ltb-false (area (diffs b) (upper (s .flood) (diffs b))) 429718348 e₄)
+old: (ltb (area (diffs b) (upper (s .flood) (diffs b))) 429718347)
+new: (ltb (area (diffs b) (upper (s .flood) (diffs b))) 429718348)
+old: lt-ltb (area (diffs b) (upper (s .flood) (diffs b))) 429718347 a
+new: lt-ltb (area (diffs b) (upper (s .flood) (diffs b))) 429718348 (omega (arith, a))
+old: le-ltb (area (diffs b) (upper (s .flood) (diffs b))) 429718347
+new: le-ltb (area (diffs b) (upper (s .flood) (diffs b))) 429718348
+file: proofs/Demand3.antt
+old: 429718347 ≡ false
+new: 429718348 ≡ false
+old: (ltb-false (area (diffs b) u) 429718347 e₄)
+new: (le-trans (omega arith) (ltb-false (area (diffs b) u) 429718348 e₄))
+old: 429718347 ≡ true
+new: 429718348 ≡ true
+old: ltb-true (area (diffs b) u) 429718347 e
+new: ltb-true (area (diffs b) u) 429718348 e
+old: 429718347 ≡ t₄
+new: 429718348 ≡ t₄
+old: (ltb (area (diffs b) (upper (s .flood) (diffs b))) 429718347)
+new: (ltb (area (diffs b) (upper (s .flood) (diffs b))) 429718348)
+"""
+
+ORDER_IN_LAWS = """
+file: proofs/Codes.antt
+old: (cond t₂ ShortAtHeel (cond t₃ ShortBeyond
+new: (cond t₃ ShortBeyond (cond t₂ ShortAtHeel
+old: cases false true t₃ t₄
+new: cases false true false t₄
+old: cases false false true t₄
+new: cases false t₂ true t₄
+old: rw (t .0, t .1, fails-true s b f)
+new: rw (t .0, fails-true s b f)
+old: rw (t .0, t .1, fails-false s b (n .beyond), lt-ltb
+new: rw (t .0, fails-false s b (n .beyond), t .1, lt-ltb
+old: rw (t .0, t .1, fails-false s b (n .beyond), le-ltb
+new: rw (t .0, fails-false s b (n .beyond), t .1, le-ltb
+file: proofs/Demand3.antt
+old: (cond t₂ ShortAtHeel (cond t₃ ShortBeyond
+new: (cond t₃ ShortBeyond (cond t₂ ShortAtHeel
+old: cases false true t₃ t₄
+new: cases false true false t₄
+old: cases false false true t₄
+new: cases false t₂ true t₄
 """
 
 
-def edit(crate, name):
-    """A must-fail edit of a crate."""
+def edit(crate, name, laws=""):
+    """A must-fail edit of a crate, and what its laws repeat."""
     folder = support.CRATES / crate
-    return (f"crates/{crate}", (folder / "must-fail" / f"{name}.edit").read_text())
+    return (f"crates/{crate}", (folder / "must-fail" / f"{name}.edit").read_text() + laws)
 
 
 FAULTS = {
     "codes_10_and_11": Fault("codes 10 and 11 exchanged", [edit("text", "theorem_10_and_11_exchanged")]),
     "five_deep": Fault("forms nested five deep are taken", [edit("text", "theorem_five_deep")]),
-    "flood_9999": Fault("FLOOD up to 9,999", [edit("limits", "theorem_flood_9999")]),
+    "flood_9999": Fault("FLOOD up to 9,999", [edit("limits", "theorem_flood_9999", FLOOD_IN_LAWS)]),
     "dist_and_girder": Fault("DIST and GIRDER of a wing exchanged when read", [("", DIST_AND_GIRDER)]),
     "kg_and_fs": Fault("KG and FS of a load exchanged when read", [("", KG_AND_FS)]),
     "new_and_old": Fault("the words `new` and `old` exchanged", [("", NEW_AND_OLD)]),
@@ -81,8 +183,8 @@ FAULTS = {
     "quarter_square": Fault("w × g − slope × w²/4 for what a cell holds", [edit("grain", "theorem_lip_with_quarter_square")]),
     "voided_100": Fault("100 per cent for `voided`", [edit("grain", "theorem_voided_100")]),
     "sine_of_40": Fault("the sine of 40 degrees 642,700", [edit("stability", "theorem_sine_of_40")]),
-    "42_beyond_upper": Fault("42 also for an angle above UPPER", [edit("stability", "theorem_42_beyond_upper")]),
-    "43_one_more": Fault("43 below 429,718,348", [edit("stability", "theorem_area_limit_one_more")]),
-    "42_before_41": Fault("42 tested before 41", [edit("stability", "theorem_42_before_41")]),
+    "42_beyond_upper": Fault("42 also for an angle above UPPER", [edit("stability", "theorem_42_beyond_upper", UPPER_IN_LAWS)]),
+    "43_one_more": Fault("43 below 429,718,348", [edit("stability", "theorem_area_limit_one_more", AREA_LIMIT_IN_LAWS)]),
+    "42_before_41": Fault("42 tested before 41", [edit("stability", "theorem_42_before_41", ORDER_IN_LAWS)]),
     "plus_for_minus": Fault("`+` for the minus sign", [edit("reply", "theorem_plus_for_minus")]),
 }
