@@ -8,7 +8,8 @@ import support
 from support import run_program, split_lines
 
 EXAMPLES = support.REPOSITORY / "examples"
-DOCUMENTS = [support.REPOSITORY / "docs" / name for name in ("CODES.md", "MARGIN.md", "COMMISSIONING.md")]
+NAMES = ("README.md", "docs/CODES.md", "docs/MARGIN.md", "docs/COMMISSIONING.md")
+DOCUMENTS = [support.REPOSITORY / name for name in NAMES]
 
 # A code block; or a row of a table.
 ENTRY = re.compile(r"^```\n(.*?)^```\n|^\| ([^\n]*) \|\n", re.MULTILINE | re.DOTALL)
@@ -26,6 +27,7 @@ CONDITION_A = ["(clear)", *process.WORKED_RUN.decode().splitlines()[:-1]]
 
 # Lines that a document asks for in words before the block or row that begins with this line; each is taken.
 IN_WORDS = {
+    ("README.md", "(load 25000 8000 100)"): [line for line in CONDITION_A if not line.startswith("(load")],
     ("CODES.md", COLUMN.format(49_000)): [COLUMN.format(d) for d in range(31_000, 49_000, 1_000)],
     ("COMMISSIONING.md", "(ship old 1050 2860)"): ["(clear)"],
     ("COMMISSIONING.md", "(ship new 500 3500)"): CONDITION_A,
