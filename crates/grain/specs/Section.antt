@@ -1,5 +1,5 @@
 -- Document 01, Shifted voids of a trimmed section. A section is its cells from the low side to the high side; areas in mm²,
--- moments in mm³. The slope of 15 degrees is 26,795/100,000.
+-- moments in mm³.
 use mathlib.Core.Bool.{Bool, true, cond}
 use mathlib.Core.List.{List, [], _∷_}
 use Prim.Native.Nat.{ℕ, _+_, _*_, _-_, _/_, min}
@@ -10,11 +10,15 @@ use Rattle.record.specs.declared.Cell.{Cell}
 use Rattle.record.specs.Held.{cellWidth, cellLip}
 use Rattle.grain.specs.Depth.{cellArea}
 
+-- the slope of 15 degrees, in hundred-thousandths
+abbrev pub slope15 : ℕ
+slope15 = 26795
+
 -- The most that a cell of width w can hold against a lip g, rounded down: g²/(2 × slope) where g ≤ slope × w, else
 -- w × g − slope × w²/2.
 unfoldable pub mostHeld : (w g : ℕ) → ℕ
 mostHeld w g =
-    cond (leb (100000 * g) (26795 * w)) (100000 * (g * g) / (2 * 26795)) ((200000 * (w * g) - 26795 * (w * w)) / 200000)
+    cond (leb (100000 * g) (slope15 * w)) (100000 * (g * g) / (2 * slope15)) ((200000 * (w * g) - slope15 * (w * w)) / 200000)
 
 abbrev pub cellMost : Cell → ℕ
 cellMost c = mostHeld (cellWidth c) (cellLip c)
@@ -49,15 +53,15 @@ fits cs = fitsFrom 0 cs
 
 -- a kept area lies as a triangle where A ≤ slope × w²/2
 abbrev pub isTriangle : Kept → Bool
-isTriangle k = leb (200000 * k .area) (26795 * (k .width * k .width))
+isTriangle k = leb (200000 * k .area) (slope15 * (k .width * k .width))
 
 -- the triangle's base b, with b² = 2A/slope, rounded down
 abbrev pub base : ℕ → ℕ
-base area = root (200000 * area / 26795)
+base area = root (200000 * area / slope15)
 
 -- 1,200,000 times the first moment of a trapezium from its high boundary: A × w/2 − slope × w³/12
 abbrev pub trapezium : Kept → ℕ
-trapezium k = 600000 * (k .area * k .width) - 26795 * (k .width * (k .width * k .width))
+trapezium k = 600000 * (k .area * k .width) - slope15 * (k .width * (k .width * k .width))
 
 -- the first moment of a kept area from its high boundary, rounded down: A × b/3 or the trapezium's
 unfoldable pub firstMoment : Kept → ℕ

@@ -44,6 +44,11 @@ pub enum Shifted {
     NoFit,
 }
 
+// The slopes of 15 and of 25 degrees, in hundred-thousandths.
+const SLOPE_15: u64 = 26795;
+
+const SLOPE_25: u64 = 46631;
+
 // Table B 1-1: the standard depth in mm, every 500 mm of distance from 500 to 8,000.
 const DEPTHS: [u64; 16] = [
     570,
@@ -124,10 +129,10 @@ fn most_held(w: u64, g: u64) -> u64
     requires { ⌜ (w < 65536) × (g < 65536) ⌝ }
     ensures { λ r. ⌜ r ≡ mostHeld w g ⌝ }
 {
-    if 100000 * g <= 26795 * w {
-        100000 * (g * g) / (2 * 26795)
+    if 100000 * g <= SLOPE_15 * w {
+        100000 * (g * g) / (2 * SLOPE_15)
     } else {
-        (200000 * (w * g) - 26795 * (w * w)) / 200000
+        (200000 * (w * g) - SLOPE_15 * (w * w)) / 200000
     }
 }
 
@@ -148,7 +153,7 @@ fn base_of(area: u64) -> u64
     requires { ⌜ area ≤ 200000000 ⌝ }
     ensures { λ r. ⌜ r ≡ base area ⌝ }
 {
-    whole::root_of(200000 * area / 26795)
+    whole::root_of(200000 * area / SLOPE_15)
 }
 
 // n / d, rounded down: what is taken away is never too much, so that the moment left is never too small.
@@ -164,10 +169,10 @@ fn first_moment(w: u64, area: u64) -> u64
     requires { ⌜ (w ≤ 40000) × (area ≤ 200000000) ⌝ }
     ensures { λ r. ⌜ (r ≡ firstMoment (kept w area)) × (r < 2 ^ 43) ⌝ }
 {
-    if 200000 * area <= 26795 * (w * w) {
+    if 200000 * area <= SLOPE_15 * (w * w) {
         cut(area * base_of(area), 3)
     } else {
-        cut(600000 * (area * w) - 26795 * (w * (w * w)), 1200000)
+        cut(600000 * (area * w) - SLOPE_15 * (w * (w * w)), 1200000)
     }
 }
 
@@ -240,7 +245,7 @@ fn slack_moment(p: Part) -> u64
     ensures { λ r. ⌜ r ≡ slackMoment p ⌝ }
 {
     let breadth = p.breadth as u64;
-    whole::divide_up(46631 * (breadth * (breadth * breadth)), 1200000)
+    whole::divide_up(SLOPE_25 * (breadth * (breadth * breadth)), 1200000)
 }
 
 // The section moment of a part, by the hold's mode.

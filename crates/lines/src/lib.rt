@@ -42,19 +42,19 @@ fn line_end(block: &[u8], at: usize) -> usize
 {
     let mut e = at;
     while 4 <= block.len() - e {
-        if block[e] == 10 {
+        if block[e] == b'\n' {
             return e;
         }
         let second = e + 1;
-        if block[second] == 10 {
+        if block[second] == b'\n' {
             return second;
         }
         let third = second + 1;
-        if block[third] == 10 {
+        if block[third] == b'\n' {
             return third;
         }
         let fourth = third + 1;
-        if block[fourth] == 10 {
+        if block[fourth] == b'\n' {
             return fourth;
         }
         e = fourth + 1;
@@ -69,7 +69,7 @@ fn last_end(block: &[u8], at: usize) -> usize
 {
     let mut e = at;
     while e < block.len() {
-        if block[e] == 10 {
+        if block[e] == b'\n' {
             return e;
         }
         e += 1;
@@ -164,7 +164,7 @@ pub fn take_begun(f: Feed, line: &mut [u8], out: &mut [u8]) -> Feed
     ensures { λ r. ⌜ BegunTaken f (take (f .used) (now (line .entry))) (take (f .filled) (now (out .entry))) r (take (r .filled) (now (out .exit))) ⌝ }
 {
     let used = f.used;
-    line[used] = 10;
+    line[used] = b'\n';
     let end = used + 1;
     let t = take_lines(f, &line[..end], 0, out);
     let mut g = t.feed;

@@ -74,10 +74,14 @@ outcomeAfter c line BadByte = answered (refusedWith (readingCode BadByte) c)
 outcomeAfter c line NotOneForm = answered (refusedWith (readingCode NotOneForm) c)
 outcomeAfter c line BadNumber = answered (refusedWith (readingCode BadNumber) c)
 
+-- the least buffer that may be lent for a reply
+abbrev pub leastRoom : ℕ
+leastRoom = 96
+
 -- a line with a lent buffer of n bytes; under 96 bytes: 15, reply length 0
 unfoldable pub stepOf : Condition → List ℕ → (n : ℕ) → Outcome
 stepOf c line n =
-    cond (ltb n 96) (record { code = 15; reply = []; after = c }) (outcomeAfter c line (readingOf line))
+    cond (ltb n leastRoom) (record { code = 15; reply = []; after = c }) (outcomeAfter c line (readingOf line))
 
 -- what the tests of the whole line leave to be answered: the code that turns the line down, or 0 and its request
 abbrev pub turnedDown : Reading → Heard
@@ -96,7 +100,7 @@ heardOf line = heardBy line (readingOf line)
 -- what was heard of a line has the line's outcome: the code that turned it down, or what its request asks for
 unfoldable pub heardOutcome : Condition → Heard → (n : ℕ) → Outcome
 heardOutcome c h n =
-    cond (ltb n 96) (record { code = 15; reply = []; after = c })
+    cond (ltb n leastRoom) (record { code = 15; reply = []; after = c })
     (cond (eqb (h .code) 0) (outcomeOf c (h .request)) (answered (refusedWith (h .code) c)))
 
 -- what a request puts into the condition. It is taken only where the request is answered with 00; elsewhere its value is free,

@@ -31,6 +31,11 @@ ghost use Rattle.panel.specs.Operations.{shipOperation, loadOperation, c
 ghost use Rattle.panel.specs.Step.{verdictGiven, outcomeOf, heardOf, heardOutcome, effectOf, stepOf, Replies, Steps};
 ghost use Rattle.panel.specs.Judge.{judgedOf, judgedAt, placeWeight, weightsOf, Between};
 
+// The greatest weight moment that judge takes, in kg·m, and the least buffer that may be lent for a reply, in bytes.
+const GREATEST_WEIGHT: u64 = 1000000000;
+
+const LEAST_ROOM: usize = 96;
+
 // The weight moments together, or that judge refuses them.
 pub enum Weights {
     Together(u64),
@@ -132,7 +137,7 @@ fn weights_of(holds: [Hold; 16]) -> Weights
         let Weights::Together(w) = place_weight(h) else {
             return Weights::TooMuch;
         };
-        if 1000000000 - sum < w {
+        if GREATEST_WEIGHT - sum < w {
             return Weights::TooMuch;
         }
         sum += w;
@@ -363,7 +368,7 @@ fn reply_to(c: Condition, r: Request, out: &mut [u8]) -> Replied
 pub fn answer(c: Condition, h: Heard, out: &mut [u8]) -> Replied
     ensures { λ r. ⌜ Replies (heardOutcome c h (length (now (out .entry))) .code) (heardOutcome c h (length (now (out .entry))) .reply) r (now (out .entry)) (now (out .exit)) ⌝ }
 {
-    if out.len() < 96 {
+    if out.len() < LEAST_ROOM {
         return Replied { code: 15, len: 0 };
     }
     let found = h.code;

@@ -28,11 +28,11 @@ fn put_digits(out: &mut [u8], n: u64, k: usize) -> usize
         return 0;
     }
     if n < 10 {
-        out[0] = 48 + n as u8;
+        out[0] = b'0' + n as u8;
         return 1;
     }
     let at = put_digits(out, n / 10, k - 1);
-    out[at] = 48 + (n % 10) as u8;
+    out[at] = b'0' + (n % 10) as u8;
     at + 1
 }
 
@@ -64,7 +64,7 @@ fn append_code(out: &mut [u8], at: usize, code: u8) -> usize
     requires { ⌜ at + 2 ≤ length (now out) ⌝ }
     ensures { λ r. ⌜ (r ≡ at + 2) × (now (out .exit) ≡ into at (twoDigits code) (now (out .entry))) ⌝ }
 {
-    let text = [48 + code / 10, 48 + code % 10];
+    let text = [b'0' + code / 10, b'0' + code % 10];
     append(out, at, &text)
 }
 

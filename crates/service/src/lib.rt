@@ -15,7 +15,7 @@ fn write_out(bytes: &[u8]) -> bool {
         if bytes.len() <= done {
             return true;
         }
-        let got = libc::write(1, &bytes[done..]);
+        let got = libc::write(libc::STDOUT_FILENO, &bytes[done..]);
         tries -= 1;
         if got < 0 {
             if os::errno() != libc::EINTR {
@@ -37,7 +37,7 @@ fn fetch(block: &mut [u8], most: usize) -> usize
 {
     let mut tries: u64 = 1000000;
     while 0 < tries {
-        let got = libc::read(0, &mut block[..most]);
+        let got = libc::read(libc::STDIN_FILENO, &mut block[..most]);
         if 0 <= got {
             let n = io::count(got, block);
             if n <= most {

@@ -27,6 +27,10 @@ abbrev pub atMostEdge : Rule → ℕ → ℕ
 atMostEdge (New edge) x = min x edge
 atMostEdge (Old edge) x = x
 
--- the heel limit: 1,200; under `new`, EDGE if smaller
+-- the greatest heel, 12 degrees
+abbrev pub greatestHeel : ℕ
+greatestHeel = 1200
+
+-- the heel limit: that; under `new`, EDGE if smaller
 abbrev pub heelLimit : Ship → ℕ
-heelLimit s = atMostEdge (s .rule) 1200
+heelLimit s = atMostEdge (s .rule) greatestHeel

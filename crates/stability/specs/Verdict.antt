@@ -60,13 +60,20 @@ failsAmong heel up ds (suc n) = failsAmong heel up ds n || failsAt heel up ds n
 abbrev pub failsBeyond : (heel upper : ℕ) → List ℤ → Bool
 failsBeyond heel up ds = failsAmong heel up ds 10 || ltb heel up && isBelow (diffAt ds up)
 
+-- the least GM, in µm, and the least area, in µm times hundredths of a degree: 0.075 metre-radian, rounded up
+abbrev pub leastGM : ℕ
+leastGM = 300000
+
+abbrev pub leastArea : ℕ
+leastArea = 429718347
+
 -- the first test that fails: of GM, of DIFF at the heel limit, at the angles of 42, and of AREA
 unfoldable pub judgedBy : (gm diff : ℤ) → (beyond : Bool) → (area : ℕ) → Judgement
 judgedBy gm diff beyond area =
-    cond (ltZ gm (pos 300000)) ShortOfGm
+    cond (ltZ gm (pos leastGM)) ShortOfGm
     (cond (isBelow diff) ShortAtHeel
     (cond beyond ShortBeyond
-    (cond (ltb area 429718347) ShortOfArea Passed)))
+    (cond (ltb area leastArea) ShortOfArea Passed)))
 
 -- the code of each judgement
 abbrev pub judgementCode : Judgement → ℕ

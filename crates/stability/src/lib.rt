@@ -43,6 +43,13 @@ pub struct Verdict {
     pub area: u64,
 }
 
+// The greatest heel in hundredths of a degree, the least GM in µm, and the least area in µm times hundredths of a degree.
+const GREATEST_HEEL: u64 = 1200;
+
+const LEAST_GM: i64 = 300000;
+
+const LEAST_AREA: u64 = 429718347;
+
 // The ten angles, in hundredths of a degree, and their sines, in millionths.
 const ANGLES: [u64; 10] = [0, 500, 1000, 1200, 1500, 2000, 2500, 3000, 3500, 4000];
 
@@ -375,8 +382,8 @@ fn heel_limit(s: Ship) -> u64
 {
     let rule = s.rule;
     match rule {
-        Rule::New(edge) => choice::smaller(1200, edge as u64),
-        Rule::Old(_) => 1200,
+        Rule::New(edge) => choice::smaller(GREATEST_HEEL, edge as u64),
+        Rule::Old(_) => GREATEST_HEEL,
     }
 }
 
@@ -398,7 +405,7 @@ fn fails_beyond(heel: u64, upper: u64, ds: [i64; 10]) -> bool
 fn judgement_of(gm: i64, diff: i64, beyond: bool, area: u64) -> Judgement
     ensures { λ r. ⌜ r ≡ judgedBy gm diff beyond area ⌝ }
 {
-    if gm < 300000 {
+    if gm < LEAST_GM {
         return Judgement::ShortOfGm;
     }
     if diff < 0 {
@@ -407,7 +414,7 @@ fn judgement_of(gm: i64, diff: i64, beyond: bool, area: u64) -> Judgement
     if beyond {
         return Judgement::ShortBeyond;
     }
-    if area < 429718347 {
+    if area < LEAST_AREA {
         return Judgement::ShortOfArea;
     }
     Judgement::Passed

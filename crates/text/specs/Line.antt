@@ -66,6 +66,10 @@ soundToken opened = true
 soundToken closed = true
 soundToken (run r) = numberIfDigit r
 
+-- how long a line may be, in bytes
+abbrev pub longest : ℕ
+longest = 2000
+
 -- how deep a form may be nested
 abbrev pub deepest : ℕ
 deepest = 4
@@ -73,7 +77,7 @@ deepest = 4
 -- the first test that a line fails
 unfoldable pub readingOf : List ℕ → Reading
 readingOf s =
-    cond (ltb 2000 (length s)) TooLong
+    cond (ltb longest (length s)) TooLong
     (cond (not (all allowed s)) BadByte
     (cond (not (oneForm deepest s)) NotOneForm
     (cond (not (all soundToken (tokens s))) BadNumber Sound)))

@@ -11,7 +11,7 @@ use Rattle.text.specs.declared.Number.{Number}
 use Rattle.text.specs.declared.Number.the-variants.{Is, Bad}
 use Rattle.text.specs.declared.Next.{Next}
 use Rattle.text.specs.declared.Next.the-variants.{Open, Close, Run, End}
-use Rattle.text.specs.Token.{space, opening, closing, isDigit, inRun, valueFrom}
+use Rattle.text.specs.Token.{space, opening, closing, isDigit, inRun, valueFrom, greatestNumber}
 
 -- how many spaces stand in front
 unfoldable pub spaces : List ℕ → ℕ
@@ -34,7 +34,7 @@ runLength (b ∷ s) = cond (inRun b) (suc (runLength s)) 0
 
 -- the number that digits say behind the value v, a zero in front or not
 unfoldable pub digitsFrom : ℕ → List ℕ → Number
-digitsFrom v s = cond (all isDigit s && leb (valueFrom v s) 999999999) (Is (valueFrom v s)) Bad
+digitsFrom v s = cond (all isDigit s && leb (valueFrom v s) greatestNumber) (Is (valueFrom v s)) Bad
 
 -- a token begins at this byte
 abbrev pub startsToken : ℕ → Bool

@@ -76,10 +76,14 @@ needlessZero [] = false
 needlessZero (b ∷ []) = false
 needlessZero (b ∷ d ∷ s) = eqb b 48
 
+-- the greatest number
+abbrev pub greatestNumber : ℕ
+greatestNumber = 999999999
+
 -- a number: digits only, from 0 to 999,999,999, without needless leading zeros
 abbrev pub isNumber : List ℕ → Bool
 isNumber [] = false
-isNumber (b ∷ s) = all isDigit (b ∷ s) && not (needlessZero (b ∷ s)) && leb (value (b ∷ s)) 999999999
+isNumber (b ∷ s) = all isDigit (b ∷ s) && not (needlessZero (b ∷ s)) && leb (value (b ∷ s)) greatestNumber
 
 unfoldable pub numberOf : List ℕ → Number
 numberOf r = cond (isNumber r) (Is (value r)) Bad

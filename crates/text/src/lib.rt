@@ -8,6 +8,13 @@ ghost use Rattle.text.specs.Token.{same as Token·same};
 ghost use Rattle.text.specs.Line.{allowed, tested, deepest, oneForm, numberIfDigit, soundToken, readingOf, readingCode};
 ghost use Rattle.text.specs.Places.{spaces, closeAt, runLength, digitsFrom, startsToken, gap, nextOf};
 
+// How long a line may be, in bytes, how much deeper than its outermost brackets forms may be nested, and the greatest number.
+const LONGEST: usize = 2000;
+
+const DEEPER: usize = 3;
+
+const GREATEST_NUMBER: u64 = 999999999;
+
 // What the tests of a whole line find, in their order.
 pub enum Reading {
     Sound,
@@ -53,14 +60,14 @@ fn is_within(lo: u8, hi: u8, b: u8) -> bool
 fn is_digit(b: u8) -> bool
     ensures { λ r. ⌜ r ≡ isDigit b ⌝ }
 {
-    is_within(48, 57, b)
+    is_within(b'0', b'9', b)
 }
 
 // Whether a byte is a letter or a digit.
 fn in_run(b: u8) -> bool
     ensures { λ r. ⌜ r ≡ inRun b ⌝ }
 {
-    choice::either(is_within(97, 122, b), is_digit(b))
+    choice::either(is_within(b'a', b'z', b), is_digit(b))
 }
 
 // Whether a byte may stand in a line.
@@ -68,8 +75,8 @@ fn is_allowed(b: u8) -> bool
     ensures { λ r. ⌜ r ≡ allowed b ⌝ }
 {
     choice::either(
-        choice::either(choice::either(in_run(b), b == 32), b == 40),
-        b == 41,
+        choice::either(choice::either(in_run(b), b == b' '), b == b'('),
+        b == b')',
     )
 }
 
@@ -94,7 +101,7 @@ fn skip(s: &[u8], at: usize) -> usize
 {
     let mut i = at;
     while i < s.len() {
-        if s[i] != 32 {
+        if s[i] != b' ' {
             return i;
         }
         i += 1;
@@ -110,10 +117,10 @@ fn close_at(s: &[u8], at: usize, left: usize) -> Closed
     let mut i = at;
     while i < s.len() {
         let b = s[i];
-        if b == 41 {
+        if b == b')' {
             return Closed::At(i + 1);
         }
-        if b == 40 {
+        if b == b'(' {
             if left == 0 {
                 return Closed::Nowhere;
             }
@@ -136,10 +143,10 @@ fn one_form(s: &[u8]) -> Test
     if s.len() <= at {
         return Test::Failed;
     }
-    if s[at] != 40 {
+    if s[at] != b'(' {
         return Test::Failed;
     }
-    let Closed::At(j) = close_at(s, at + 1, 3) else {
+    let Closed::At(j) = close_at(s, at + 1, DEEPER) else {
         return Test::Failed;
     };
     if skip(s, j) != s.len() {
@@ -159,8 +166,8 @@ fn digits_of(run: &[u8]) -> Number
         if !is_digit(b) {
             return Number::Bad;
         }
-        let w = 10 * v + (b - 48) as u64;
-        if 999999999 < w {
+        let w = 10 * v + (b - b'0') as u64;
+        if GREATEST_NUMBER < w {
             return Number::Bad;
         }
         v = w;
@@ -179,7 +186,7 @@ pub fn number_of(run: &[u8]) -> Number
     if run.len() == 1 {
         return digits_of(run);
     }
-    if run[0] == 48 {
+    if run[0] == b'0' {
         return Number::Bad;
     }
     digits_of(run)
@@ -247,7 +254,7 @@ fn all_sound(s: &[u8]) -> Test
 pub fn reading_of(line: &[u8]) -> Reading
     ensures { λ r. ⌜ r ≡ readingOf (now (line .entry)) ⌝ }
 {
-    if 2000 < line.len() {
+    if LONGEST < line.len() {
         return Reading::TooLong;
     }
     let Test::Passed = all_allowed(line) else {
@@ -295,7 +302,7 @@ pub fn same(a: &[u8], b: &[u8]) -> bool
 fn starts_token(b: u8) -> bool
     ensures { λ r. ⌜ r ≡ startsToken b ⌝ }
 {
-    choice::either(choice::either(in_run(b), b == 40), b == 41)
+    choice::either(choice::either(in_run(b), b == b'('), b == b')')
 }
 
 // The place of the next token, or the end of the line.
@@ -323,10 +330,10 @@ pub fn next_at(s: &[u8], at: usize) -> Next
         return Next::End;
     }
     let b = s[p];
-    if b == 40 {
+    if b == b'(' {
         return Next::Open(p + 1);
     }
-    if b == 41 {
+    if b == b')' {
         return Next::Close(p + 1);
     }
     let q = run_end(s, p);
