@@ -6,7 +6,7 @@ ghost use mathlib.Core.Bool.{_&&_};
 ghost use Prim.Native.Nat.{_<_};
 ghost use lib.Dec.{leb};
 ghost use Rattle.record.specs.Held.{held};
-ghost use Rattle.columns.specs.Columns.{columnAnswer, withColumn};
+ghost use Rattle.columns.specs.Columns.{columnAnswer, inOrder, withColumn};
 ghost use Rattle.columns.specs.Search.{columnsAround};
 
 // The place of the first of two neighbouring columns around a displacement.
@@ -79,4 +79,27 @@ pub fn columns_around(cs: Columns, d: u32) -> Around
         i += 1;
     }
     Around::Outside
+}
+
+// Whether each column held is within its limits and above the one before.
+pub fn in_order(cs: Columns) -> bool
+    ensures { λ r. ⌜ r ≡ inOrder (held cs) ⌝ }
+{
+    let n = choice::smaller(cs.count as u64, 20) as usize;
+    let mut i: usize = 0;
+    while i < n {
+        let k = cs.places[i];
+        if !limits::column_limits(k) {
+            return false;
+        }
+        if n <= i + 1 {
+            return true;
+        }
+        let m = cs.places[i + 1];
+        if m.d <= k.d {
+            return false;
+        }
+        i += 1;
+    }
+    true
 }

@@ -13,7 +13,8 @@ use Rattle.whole.proofs.Lists.{drop-next, drop-end}
 use Rattle.reply.specs.Written.{over}
 use Rattle.condition.specs.declared.Condition.{Condition}
 use Rattle.panel.specs.declared.Heard.{Heard}
-use Rattle.panel.specs.Step.{heardOutcome, stepOf, conditionAfter, outcomes}
+use Rattle.panel.specs.Step.{stepOf, conditionAfter, outcomes}
+use Rattle.panel.specs.Answering.{heardOutcome}
 use Rattle.lines.specs.declared.Feed.{Feed}
 use Rattle.lines.specs.Lines.{Cut, cut, ended, longer, joined, NoNewline, CutLaw, sent, together, repliesTo}
 use Rattle.lines.specs.Taking.{lineLength, between, LinesTaken}

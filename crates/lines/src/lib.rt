@@ -6,7 +6,7 @@ ghost use mathlib.Core.Path.{_≡_};
 ghost use mathlib.Core.List.{_++_};
 ghost use Prim.Native.Nat.{_+_, _-_, _≤_, _<_};
 ghost use lib.ListN.{length, take, drop};
-ghost use Rattle.panel.specs.Step.{heardOutcome};
+ghost use Rattle.panel.specs.Answering.{heardOutcome};
 ghost use Rattle.lines.specs.Lines.{mostLines, mostBytes};
 ghost use Rattle.lines.specs.Taking.{lineLength, FromBlock, RepliedBehind, BegunTaken, Room, FirstMoved, BlockMoved};
 ghost use Rattle.lines.specs.Limits.{Asked, ToldIs};

@@ -18,7 +18,8 @@ use Rattle.request.specs.Shape.{plain}
 use Rattle.condition.specs.declared.Condition.{Condition}
 use Rattle.panel.specs.Operations.{Change, refusedWith}
 use Rattle.panel.specs.declared.Heard.{Heard}
-use Rattle.panel.specs.Step.{Outcome, answered, outcomeOf, outcomeAfter, heardBy, heardOf, heardOutcome, effectOf, stepOf}
+use Rattle.panel.specs.Step.{Outcome, answered, outcomeOf, outcomeAfter, stepOf}
+use Rattle.panel.specs.Answering.{heardBy, heardOf, heardOutcome, effectOf}
 use Rattle.panel.proofs.Taking.{chosen}
 use Rattle.panel.proofs.Demand1.{refusals-change-nothing}
 use Rattle.panel.proofs.Carrying.{carried-outcome}

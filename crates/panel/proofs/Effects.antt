@@ -26,7 +26,8 @@ use Rattle.request.specs.declared.Kind.{Kind}
 use Rattle.request.specs.declared.Kind.the-variants.{ShipLine, ColumnLine, LoadLine, HoldLine, DropLine, JudgeLine, ClearLine, NoShape}
 use Rattle.request.specs.declared.Request.{Request}
 use Rattle.panel.specs.Judge.{judgedOf}
-use Rattle.panel.specs.Step.{verdictGiven, outcomeBy, outcomeOf, effectBy, effectOf}
+use Rattle.panel.specs.Step.{verdictGiven, outcomeBy, outcomeOf}
+use Rattle.panel.specs.Answering.{effectBy, effectOf}
 use Rattle.panel.proofs.Taking.{taken-below}
 
 -- a test that answers with 00 passed: the other answer has another code

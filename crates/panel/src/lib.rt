@@ -28,7 +28,8 @@ ghost use Rattle.reply.specs.Replies.{answerReply};
 ghost use Rattle.condition.specs.Condition.{empty, isHeld, withShip, withLoad, withColumns, withHold};
 ghost use Rattle.grain.specs.Sum.{weighedCode};
 ghost use Rattle.panel.specs.Operations.{shipOperation, loadOperation, columnOperation, holdOperation, dropOperation};
-ghost use Rattle.panel.specs.Step.{verdictGiven, outcomeOf, heardOf, heardOutcome, effectOf, stepOf, Replies, Steps};
+ghost use Rattle.panel.specs.Step.{verdictGiven, outcomeOf, stepOf, Replies, Steps};
+ghost use Rattle.panel.specs.Answering.{heardOf, heardOutcome, effectOf};
 ghost use Rattle.panel.specs.Judge.{judgedOf, judgedAt, placeWeight, weightsOf, Between};
 
 // The greatest weight moment that judge takes, in kg·m, and the least buffer that may be lent for a reply, in bytes.
@@ -80,34 +81,11 @@ fn is_held(holds: [Hold; 16], n: u32) -> bool
 
 // ---- judge
 
-// Whether each column held is within its limits and above the one before.
-fn in_order(cs: Columns) -> bool
-    ensures { λ r. ⌜ r ≡ inOrder (held cs) ⌝ }
-{
-    let n = choice::smaller(cs.count as u64, 20) as usize;
-    let mut i: usize = 0;
-    while i < n {
-        let k = cs.places[i];
-        if !limits::column_limits(k) {
-            return false;
-        }
-        if n <= i + 1 {
-            return true;
-        }
-        let m = cs.places[i + 1];
-        if m.d <= k.d {
-            return false;
-        }
-        i += 1;
-    }
-    true
-}
-
 // Whether two columns are held, and all are in order.
 fn enough_columns(cs: Columns) -> bool
     ensures { λ r. ⌜ r ≡ (leb 2 (length (held cs)) && inOrder (held cs)) ⌝ }
 {
-    choice::both(2 <= cs.count, in_order(cs))
+    choice::both(2 <= cs.count, columns::in_order(cs))
 }
 
 // The weight moment of one place: nothing where it holds no hold.

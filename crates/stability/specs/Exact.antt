@@ -2,9 +2,11 @@
 -- whole W. The paper's numbers stand here once more, and no formula is shared with the definitions that compute the figures shown (Arms,
 -- Area, Verdict). Each value is a whole number over one denominator above zero, and the exact curves are the straight lines from each of
 -- the ten angles to the next. Angles and stretches are counted from 0.
+use mathlib.Core.Path.{_≡_}
 use mathlib.Core.Bool.{cond}
 use mathlib.Core.List.{List, [], _∷_}
 use Prim.Native.Nat.{ℕ, zero, suc, _+_, _*_, _-_, _≤_, _<_}
+use native.Mathlib.Omega.{arith}
 use lib.Dec.{leb}
 use lib.IntN.{ℤ}
 use lib.ListN.{getD}
@@ -48,6 +50,11 @@ kgOver b k = (b .load .kg + b .load .fs) * sineOf k
 -- the heeling arm, over 20,000 × D
 abbrev pub heelOver : Basis → ℕ → ℕ
 heelOver b k = 1000 * b .weight * (20000 - angleOf k)
+
+-- at 40 degrees it is 0.8 of the first, as the Code has it
+pub eight-tenths : (b : Basis) → 10 * heelOver b 9 ≡ 8 * heelOver b 0
+unfolding angleOf
+eight-tenths b = omega arith
 
 -- the one denominator of all arms
 abbrev pub den : Basis → ℕ

@@ -1,3 +1,4 @@
+-- `column_answer`: what the columns held answer to one more.
 use mathlib.Core.Path.{_≡_, sym, _∙_}
 use mathlib.Core.Bool.{true, false}
 use native.Mathlib.Omega.{arith}

@@ -1,3 +1,4 @@
+-- `columns_around`: the first two neighbouring columns around d.
 use borrow.Author.Needs.{needs}
 use mathlib.Core.Path.{_≡_, sym, _∙_}
 use mathlib.Core.Bool.{_&&_}

@@ -1,3 +1,4 @@
+-- `is_between`: whether low <= d <= high.
 use mathlib.Core.Path.{refl}
 use borrow.Author.Tests.{le-leb, lt-leb}
 use Rattle.columns.proofs.is_between.Statement.{statement}

@@ -1,3 +1,4 @@
+-- `empty_condition`: the condition at the start, and after a clear.
 use borrow.Author.Needs.{needs}
 use Rattle.condition.proofs.empty_condition.Statement.{statement}
 use Rattle.condition.proofs.empty_condition.Tie as tie

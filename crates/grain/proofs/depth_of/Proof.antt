@@ -1,3 +1,4 @@
+-- `depth_of`
 use mathlib.Core.Path.{refl}
 use Rattle.grain.specs.Depth.{cellDepth}
 use borrow.Author.Needs.{needs}

@@ -1,3 +1,4 @@
+-- `first_moment`: the first moment of an area kept in a cell of width w, from its high boundary.
 use mathlib.Core.Path.{_∙_}
 use Prim.Native.Nat.{_≤_}
 use native.Mathlib.Omega.{arith}

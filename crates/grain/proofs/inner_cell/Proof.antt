@@ -1,3 +1,4 @@
+-- `inner_cell`: a cell that is not the last keeps what it can hold, and leaves the rest.
 use borrow.Author.Needs.{needs}
 use Rattle.grain.proofs.inner_cell.Statement.{statement}
 use Rattle.grain.proofs.inner_cell.Tie as tie

@@ -1,3 +1,4 @@
+-- `last_cell`: the last cell takes the excess of all.
 use mathlib.Core.Path.{refl, ap}
 use borrow.Author.Tests.{le-leb, lt-leb}
 use Rattle.grain.specs.declared.Sums.{Sums}

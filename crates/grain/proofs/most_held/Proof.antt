@@ -1,3 +1,4 @@
+-- `most_held`: the most that a cell of width w can hold against a lip g.
 use Prim.Native.Nat.{_≤_}
 use native.Mathlib.Omega.{arith}
 use native.Mathlib.Nat.{mul-le-mul}

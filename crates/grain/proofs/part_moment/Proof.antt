@@ -1,3 +1,4 @@
+-- `part_moment`: a part, in thousandths of a metre to the fourth power.
 use Prim.Native.Nat.{_≤_, _^_}
 use mathlib.Core.Path.{refl, sym, _∙_}
 use native.Mathlib.Omega.{arith}

@@ -1,3 +1,4 @@
+-- `part_section`: the section moment of a part, by the hold's mode.
 use mathlib.Core.Path.{refl}
 use Rattle.grain.specs.Walk.{sectionAnswer, partSectionAnswer}
 use borrow.Author.Needs.{needs}

@@ -1,3 +1,4 @@
+-- `parts_moment`: the parts of a hold, added up.
 use mathlib.Core.Bool.{true}
 use borrow.Author.Needs.{needs}
 use mathlib.Core.Path.{_≡_, refl, sym, ap, _∙_}

@@ -1,3 +1,4 @@
+-- `percentage_of`
 use borrow.Author.Needs.{needs}
 use Rattle.grain.proofs.percentage_of.Statement.{statement}
 use Rattle.grain.proofs.percentage_of.Tie as tie

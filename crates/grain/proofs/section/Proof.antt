@@ -1,3 +1,4 @@
+-- `section`: the section moment of a part's cells, or that its void does not fit.
 use borrow.Author.Needs.{needs}
 use mathlib.Core.Path.{_≡_, refl}
 use Prim.Native.Nat.{_+_, _-_, _≤_}

@@ -1,3 +1,4 @@
+-- `slack_moment`: the section moment of a partly filled part.
 use Prim.Native.Nat.{_≤_}
 use native.Mathlib.Omega.{arith}
 use native.Mathlib.Nat.{mul-le-mul}

@@ -1,3 +1,4 @@
+-- `standard_depth`: 500 times the standard depth at the distance x.
 use native.Mathlib.Omega.{arith}
 use Rattle.grain.proofs.Depths.{below-first, above-last, between, between-le}
 use borrow.Author.Needs.{needs}

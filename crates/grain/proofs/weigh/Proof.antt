@@ -1,3 +1,4 @@
+-- `weigh`: the weight moment of a hold record as it stands.
 use mathlib.Core.Path.{_≡_, refl, sym, _∙_}
 use mathlib.Core.Bool.{true}
 use Prim.Native.Nat.{_≤_, _^_}

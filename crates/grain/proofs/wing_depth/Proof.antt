@@ -1,3 +1,4 @@
+-- `wing_depth`: a wing's depth, rounded up once.
 use Rattle.grain.specs.Depth.{wingDepth}
 use native.Mathlib.Omega.{arith}
 use borrow.Author.Needs.{needs}

@@ -1,3 +1,4 @@
+-- `with_kept`: the sums with a cell that keeps the area `keeps` and leaves the excess.
 use mathlib.Core.Path.{refl}
 use Prim.Native.Nat.{_+_, _*_, _≤_}
 use native.Mathlib.Omega.{arith}

@@ -1,3 +1,4 @@
+-- `cell_limits`
 use borrow.Author.Needs.{needs}
 use Rattle.hold_limits.proofs.cell_limits.Statement.{statement}
 use Rattle.hold_limits.proofs.cell_limits.Tie as tie

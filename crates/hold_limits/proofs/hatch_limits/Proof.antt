@@ -1,3 +1,4 @@
+-- `hatch_limits`
 use Rattle.limits.specs.Limits.{cellLimits}
 use borrow.Author.Needs.{needs}
 use Rattle.hold_limits.proofs.hatch_limits.Statement.{statement}

@@ -1,3 +1,4 @@
+-- `hold_limits`
 use mathlib.Core.Path.{refl, sym, _∙_}
 use borrow.Author.Tests.{not-true, not-false}
 use Rattle.whole.proofs.Lists.{within-true}

@@ -1,3 +1,4 @@
+-- `part_limits`
 use borrow.Author.Needs.{needs}
 use Rattle.hold_limits.proofs.part_limits.Statement.{statement}
 use Rattle.hold_limits.proofs.part_limits.Tie as tie

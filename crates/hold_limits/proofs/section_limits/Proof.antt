@@ -1,3 +1,4 @@
+-- `section_limits`: a part of a trimmed or voided hold.
 use mathlib.Core.Path.{refl, sym, _∙_}
 use borrow.Author.Tests.{not-true, not-false}
 use Rattle.whole.proofs.Lists.{within-true}

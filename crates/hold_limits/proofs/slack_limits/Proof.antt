@@ -1,3 +1,4 @@
+-- `slack_limits`: a part of a partly filled hold.
 use Rattle.limits.specs.Limits.{slackLimits}
 use borrow.Author.Needs.{needs}
 use Rattle.hold_limits.proofs.slack_limits.Statement.{statement}

@@ -1,3 +1,4 @@
+-- `void_limits`
 use Rattle.limits.specs.Limits.{cellLimits}
 use borrow.Author.Needs.{needs}
 use Rattle.hold_limits.proofs.void_limits.Statement.{statement}

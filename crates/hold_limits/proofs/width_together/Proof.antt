@@ -1,3 +1,4 @@
+-- `width_together`: the widths of the first `count` cells together.
 use borrow.Author.Needs.{needs}
 use mathlib.Core.Path.{_≡_, ap}
 use Prim.Native.Nat.{_+_, _*_, _≤_, _-_}

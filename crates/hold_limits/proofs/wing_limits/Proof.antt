@@ -1,3 +1,4 @@
+-- `wing_limits`
 use Rattle.limits.specs.Limits.{cellLimits}
 use borrow.Author.Needs.{needs}
 use Rattle.hold_limits.proofs.wing_limits.Statement.{statement}

@@ -1,3 +1,4 @@
+-- `column_limits`
 use Rattle.limits.specs.Limits.{columnLimits}
 use borrow.Author.Needs.{needs}
 use Rattle.limits.proofs.column_limits.Statement.{statement}

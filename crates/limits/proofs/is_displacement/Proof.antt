@@ -1,3 +1,4 @@
+-- `is_displacement`: whether d is a displacement of a ship.
 use Rattle.whole.specs.Lists.{within}
 use borrow.Author.Needs.{needs}
 use Rattle.limits.proofs.is_displacement.Statement.{statement}

@@ -1,3 +1,4 @@
+-- `is_within`: whether lo <= v <= hi.
 use Rattle.whole.specs.Lists.{within}
 use borrow.Author.Needs.{needs}
 use Rattle.limits.proofs.is_within.Statement.{statement}

@@ -1,3 +1,4 @@
+-- `load_limits`
 use Rattle.limits.specs.Limits.{loadLimits}
 use borrow.Author.Needs.{needs}
 use Rattle.limits.proofs.load_limits.Statement.{statement}

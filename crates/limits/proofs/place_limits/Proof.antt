@@ -1,3 +1,4 @@
+-- `place_limits`: the number of a hold.
 use Rattle.whole.specs.Lists.{within}
 use borrow.Author.Needs.{needs}
 use Rattle.limits.proofs.place_limits.Statement.{statement}

@@ -1,3 +1,4 @@
+-- `ship_limits`
 use Rattle.limits.specs.Limits.{shipLimits}
 use borrow.Author.Needs.{needs}
 use Rattle.limits.proofs.ship_limits.Statement.{statement}

@@ -1,3 +1,4 @@
+-- `values_within`: whether each KN is within its limits.
 use mathlib.Core.Path.{_≡_, sym, _∙_}
 use Prim.Native.Nat.{_≤_, _-_}
 use native.Mathlib.Omega.{arith}

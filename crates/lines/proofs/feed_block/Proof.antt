@@ -1,3 +1,4 @@
+-- `feed_block`: takes the lines of a block from `at` on, the one that has begun first, and keeps what stands behind the last; where the ..
 use mathlib.Core.Path.{_∙_}
 use native.Mathlib.Omega.{arith}
 use Rattle.lines.proofs.Pieces.{block-full, block-waits, block-kept}

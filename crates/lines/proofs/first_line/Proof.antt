@@ -1,3 +1,4 @@
+-- `first_line`: the line that has begun in an earlier block, up to this block's first byte 10 from `at` on.
 use mathlib.Core.Path.{refl}
 use native.Mathlib.Omega.{arith}
 use Rattle.lines.proofs.Pieces.{first-none, first-on, first-taken}

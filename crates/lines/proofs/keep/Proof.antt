@@ -1,3 +1,4 @@
+-- `keep`: keeps of a piece what has room behind the first `used` bytes of the line, 2,001 in all: how many are kept then.
 use mathlib.Core.List.{append-nil, _++_}
 use Rattle.lines.proofs.Cutting.{kept-more, kept-all, kept-rest}
 use Prim.Native.Nat.{_≤_, _-_, _+_}

@@ -1,3 +1,4 @@
+-- `last_end`: the same, byte by byte.
 use Rattle.lines.specs.Taking.{lineLength}
 use Rattle.lines.proofs.Cutting.{line-out, line-stop, line-on}
 use Prim.Native.Nat.{_≤_, _-_, _+_}

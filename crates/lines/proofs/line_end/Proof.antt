@@ -1,3 +1,4 @@
+-- `line_end`: the place of the next byte 10 from `at` on, or the block's end: four bytes in a turn.
 use Rattle.lines.specs.Taking.{lineLength}
 use Rattle.lines.proofs.Cutting.{line-stop, line-on}
 use Prim.Native.Nat.{_≤_, _-_, _+_}

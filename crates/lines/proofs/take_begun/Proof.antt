@@ -1,3 +1,4 @@
+-- `take_begun`: the line that has begun is ended: with byte 10 behind it, it is taken as a block of its own.
 use mathlib.Core.Path.{refl, sym}
 use native.Mathlib.Omega.{arith}
 use lib.ListN.{length-set}

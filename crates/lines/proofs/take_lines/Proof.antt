@@ -1,3 +1,4 @@
+-- `take_lines`: takes the lines of a block from `at` on: up to the last that byte 10 ends, while lines are left and there is room for a ..
 use mathlib.Core.Path.{_≡_, refl, sym, _∙_}
 use Prim.Native.Nat.{_-_}
 use native.Mathlib.Omega.{arith}

@@ -1,3 +1,4 @@
+-- `tell`: what a read of `got` bytes tells.
 use native.Mathlib.Omega.{arith}
 use Rattle.lines.proofs.Limits.{told-none, told-last, told-short}
 use Rattle.lines.proofs.tell.Statement.{statement}

@@ -1,3 +1,4 @@
+-- `to_ask`: how many bytes are asked for next, where `left` lines and `more` bytes may still come and `used` bytes of a line are kept.
 use native.Mathlib.Omega.{arith}
 use Rattle.lines.proofs.Limits.{ask-full, ask-none, ask-more, ask-one}
 use borrow.Author.Needs.{needs}

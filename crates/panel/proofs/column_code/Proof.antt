@@ -1,3 +1,4 @@
+-- `column_code`: 00, or 20, 23, 22 in this order.
 use mathlib.Core.Path.{sym, _∙_, ap}
 use Rattle.record.specs.Held.{held}
 use Rattle.columns.specs.Columns.{columnAnswer, addedCode}

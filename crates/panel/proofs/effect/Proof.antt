@@ -1,5 +1,6 @@
+-- `effect`: what a request that was answered with 00 puts into the condition.
 use mathlib.Core.Path.{refl}
-use Rattle.panel.specs.Step.{effectOf}
+use Rattle.panel.specs.Answering.{effectOf}
 use borrow.Author.Needs.{needs}
 use Rattle.panel.proofs.effect.Statement.{statement}
 use Rattle.panel.proofs.effect.Tie as tie

@@ -1,3 +1,4 @@
+-- `enough_columns`: whether two columns are held, and all are in order.
 use mathlib.Core.Path.{_≡_}
 use lib.ListN.{length}
 use Rattle.whole.proofs.Lists.{unmapped}

@@ -1,3 +1,4 @@
+-- `give_verdict`: judge replies `(verdict CC ..)`.
 use mir.Syntax.{w64}
 use mir.Val.{SFits}
 use mir.Facts.{toZ-ofZ}

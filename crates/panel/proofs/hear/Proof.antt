@@ -1,3 +1,4 @@
+-- `hear`: the tests of the whole line, and the request of one that passes them.
 use mathlib.Core.Path.{refl, sym, _∙_, ap}
 use Rattle.text.specs.Line.{readingOf, readingCode}
 use Rattle.panel.proofs.Asked.{line-sound}

@@ -1,3 +1,4 @@
+-- `hold_code`: 00, or 20, 21.
 use mathlib.Core.Path.{refl, sym, _∙_, ap}
 use borrow.Author.Tests.{not-true, not-false}
 use Rattle.grain.specs.Sum.{weighedCode, weighedOf}

@@ -1,3 +1,4 @@
+-- `is_held`: whether there is a hold n.
 use mathlib.Core.Path.{_≡_, sym, ap}
 use Prim.Native.Nat.{_-_}
 use lib.Dec.{ltb}

@@ -1,3 +1,4 @@
+-- `judge`: 30 to 33 in their order, then 34 or the verdict.
 use lib.Dec.{leb}
 use Rattle.record.specs.Held.{held}
 use Rattle.columns.specs.Columns.{inOrder}

@@ -1,3 +1,4 @@
+-- `judge_between`: the verdict between the columns i and i + 1, or 34.
 use mathlib.Core.Path.{sym, _∙_}
 use native.Mathlib.Omega.{arith}
 use native.Mathlib.Numerals.{add-one}

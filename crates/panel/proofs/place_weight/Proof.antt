@@ -1,3 +1,4 @@
+-- `place_weight`: the weight moment of one place: nothing where it holds no hold.
 use mathlib.Core.Path.{sym, _∙_}
 use Prim.Native.Nat.{_<_}
 use Rattle.panel.proofs.Weighing.{place-empty, place-weighed, place-limits, place-no-fit}

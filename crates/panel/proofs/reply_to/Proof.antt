@@ -1,3 +1,4 @@
+-- `reply_to`: the reply to a request.
 use Rattle.panel.specs.Step.{outcomeOf}
 use borrow.Author.Needs.{needs}
 use Rattle.panel.proofs.reply_to.Statement.{statement}

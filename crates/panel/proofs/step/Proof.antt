@@ -1,3 +1,4 @@
+-- `step`: one line: its reply at the front of the lent buffer, and the condition after it.
 use lib.ListN.{length}
 use Rattle.panel.proofs.Answers.{heard-as, answer-kept, answer-effect}
 use borrow.Author.Needs.{needs}

@@ -1,3 +1,4 @@
+-- `weights_of`: the weight moments of all holds together.
 use Rattle.panel.specs.Judge.{greatestWeight}
 use mathlib.Core.Path.{_≡_, sym, _∙_}
 use Prim.Native.Nat.{_≤_, _-_}

@@ -1,3 +1,4 @@
+-- `with_column`
 use mathlib.Core.Path.{_≡_, refl}
 use native.Mathlib.Omega.{arith}
 use lib.ListN.{length, length-take}

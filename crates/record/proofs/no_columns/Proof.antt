@@ -1,3 +1,4 @@
+-- `no_columns`
 use borrow.Author.Needs.{needs}
 use Rattle.record.proofs.no_columns.Statement.{statement}
 use Rattle.record.proofs.no_columns.Tie as tie

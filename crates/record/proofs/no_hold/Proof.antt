@@ -1,3 +1,4 @@
+-- `no_hold`
 use borrow.Author.Needs.{needs}
 use Rattle.record.proofs.no_hold.Statement.{statement}
 use Rattle.record.proofs.no_hold.Tie as tie

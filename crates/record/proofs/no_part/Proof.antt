@@ -1,3 +1,4 @@
+-- `no_part`
 use borrow.Author.Needs.{needs}
 use Rattle.record.proofs.no_part.Statement.{statement}
 use Rattle.record.proofs.no_part.Tie as tie

@@ -1,3 +1,4 @@
+-- `put_digits`: the decimal digits of n, of which there are at most k, over the front of a buffer.
 use borrow.Author.Needs.{needs}
 use Prim.Native.Nat.{_-_, _+_, _/_, _%_}
 use mathlib.Core.Path.{sym, ap}

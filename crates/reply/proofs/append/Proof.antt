@@ -1,3 +1,4 @@
+-- `append`: a text behind the `at` bytes that are written already: it gets the part of the buffer that starts there.
 use native.Mathlib.Omega.{arith}
 use Rattle.reply.proofs.Writing.{lent}
 use borrow.Author.Needs.{needs}

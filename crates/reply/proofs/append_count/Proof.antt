@@ -1,3 +1,4 @@
+-- `append_count`: a space and a figure that is not below zero, behind what is written.
 use mathlib.Core.Path.{_∙_}
 use mathlib.Core.List.{[], _∷_}
 use native.Mathlib.Omega.{arith}

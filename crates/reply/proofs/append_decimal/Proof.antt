@@ -1,3 +1,4 @@
+-- `append_decimal`: a figure that is not below zero, likewise.
 use native.Mathlib.Omega.{arith}
 use Rattle.reply.specs.Written.{decimal}
 use Rattle.reply.proofs.Writing.{lent}

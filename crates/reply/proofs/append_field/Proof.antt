@@ -1,3 +1,4 @@
+-- `append_field`: a space and a figure behind what is written.
 use mathlib.Core.Path.{_∙_}
 use mathlib.Core.List.{[], _∷_}
 use native.Mathlib.Omega.{arith}

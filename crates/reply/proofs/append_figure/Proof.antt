@@ -1,3 +1,4 @@
+-- `append_figure`: a figure, likewise; below zero it carries a minus sign.
 use mathlib.Core.Path.{sym, _∙_, ap}
 use mathlib.Core.List.{[], _∷_}
 use native.Mathlib.Omega.{arith}

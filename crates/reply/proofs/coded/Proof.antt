@@ -1,3 +1,4 @@
+-- `coded`: a head, a code, the closing bracket and a newline.
 use mathlib.Core.List.{_++_}
 use native.Mathlib.Omega.{arith}
 use lib.ListN.{length-append}

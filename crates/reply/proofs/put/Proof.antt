@@ -1,3 +1,4 @@
+-- `put`: a text over the front of a buffer.
 use lib.ListN.{length-set}
 use lib.Seq.{take-length}
 use Rattle.reply.specs.Written.{over}

@@ -1,3 +1,4 @@
+-- `verdict`: `(verdict CC GM DIFF UPPER AREA)`.
 use mathlib.Core.Path.{_≡_}
 use mathlib.Core.List.{List, _++_}
 use Prim.Native.Nat.{ℕ, suc, _+_}

@@ -1,3 +1,4 @@
+-- `bare_at`: `)`
 use Rattle.request.proofs.Walks.{ends-next}
 use mathlib.Core.Path.{sym}
 use lib.ListN.{drop}

@@ -1,3 +1,4 @@
+-- `body_at`: the parts go by the mode.
 use Rattle.request.specs.Shape.{body?}
 use borrow.Author.Needs.{needs}
 use Rattle.request.proofs.body_at.Statement.{statement}

@@ -1,3 +1,4 @@
+-- `cell_at`: a cell, by its word.
 use mathlib.Core.Path.{sym, _∙_}
 use Rattle.text.specs.Token.{same}
 use Rattle.request.specs.Shape.{cell?}

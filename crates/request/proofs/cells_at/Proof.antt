@@ -1,3 +1,4 @@
+-- `cells_at`: the cells of a part, at most eight, and its closing bracket.
 use Prim.Native.Nat.{_≤_, _-_, _+_, _<_}
 use native.Mathlib.Omega.{arith}
 use mathlib.Core.Path.{_≡_, sym, _∙_}

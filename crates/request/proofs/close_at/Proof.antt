@@ -1,3 +1,4 @@
+-- `close_at`
 use Rattle.text.proofs.Runs.{next-by}
 use Rattle.request.specs.Grammar.{close?}
 use borrow.Author.Needs.{needs}

@@ -1,3 +1,4 @@
+-- `column_at`: `D KM (K ..
 use mathlib.Core.Path.{_≡_}
 use mathlib.Core.List.{map}
 use native.Mathlib.Omega.{arith}

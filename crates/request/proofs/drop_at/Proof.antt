@@ -1,3 +1,4 @@
+-- `drop_at`: `N)`
 use lib.ListN.{drop}
 use Rattle.text.specs.Token.{tokens}
 use Rattle.request.specs.declared.Kind.the-variants.{DropLine}

@@ -1,3 +1,4 @@
+-- `ends_at`: whether no token stands from `at` on.
 use Rattle.text.proofs.Runs.{next-by}
 use Rattle.request.specs.Places.{isEnd}
 use borrow.Author.Needs.{needs}

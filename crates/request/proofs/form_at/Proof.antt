@@ -1,3 +1,4 @@
+-- `form_at`: a form, by its first word.
 use mathlib.Core.Path.{sym, _∙_, refl}
 use lib.ListN.{drop}
 use Rattle.text.specs.Token.{tokens, same}

@@ -1,3 +1,4 @@
+-- `hatch_at`: `WIDTH OPEN LIP)`
 use mathlib.Core.List.{map}
 use native.Mathlib.Omega.{arith}
 use lib.ListN.{take, drop}

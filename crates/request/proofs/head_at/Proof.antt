@@ -1,3 +1,4 @@
+-- `head_at`: a form's opening bracket and the run behind it.
 use Rattle.request.specs.Grammar.{head?}
 use borrow.Author.Needs.{needs}
 use Rattle.request.proofs.head_at.Statement.{statement}

@@ -1,3 +1,4 @@
+-- `hold_at`: `N MODE SF PART ..)`
 use mathlib.Core.Path.{sym, _∙_}
 use Rattle.text.specs.Token.{same}
 use Rattle.request.specs.Shape.{hold?}

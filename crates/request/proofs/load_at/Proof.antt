@@ -1,3 +1,4 @@
+-- `load_at`: `D KG FS)`
 use mathlib.Core.List.{map}
 use native.Mathlib.Omega.{arith}
 use lib.ListN.{take, drop}

@@ -1,3 +1,4 @@
+-- `number_at`
 use Rattle.request.specs.Grammar.{number?}
 use Rattle.text.specs.Token.{numberOf}
 use mathlib.Core.Path.{sym, _∙_, ap}

@@ -1,3 +1,4 @@
+-- `open_at`
 use Rattle.text.proofs.Runs.{next-by}
 use Rattle.request.specs.Grammar.{open?}
 use borrow.Author.Needs.{needs}

@@ -1,3 +1,4 @@
+-- `part_at`
 use mathlib.Core.Path.{sym, _∙_}
 use Rattle.text.specs.Token.{same}
 use Rattle.request.specs.Shape.{part?}

@@ -1,3 +1,4 @@
+-- `part_list_at`: the parts of a hold, at most six, and its closing bracket.
 use Prim.Native.Nat.{_≤_, _-_, _+_, _<_}
 use native.Mathlib.Omega.{arith}
 use mathlib.Core.Path.{_≡_, sym, _∙_}

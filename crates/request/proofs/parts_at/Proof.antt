@@ -1,3 +1,4 @@
+-- `parts_at`: `SF PART ..)`
 use mathlib.Core.Path.{_∙_}
 use native.Mathlib.Omega.{arith}
 use lib.ListN.{drop}

@@ -1,3 +1,4 @@
+-- `plain`
 use borrow.Author.Needs.{needs}
 use Rattle.request.proofs.plain.Statement.{statement}
 use Rattle.request.proofs.plain.Tie as tie

@@ -1,3 +1,4 @@
+-- `request_of`: the request of a line: the form that it is, with nothing behind it.
 use mathlib.Core.Path.{sym, _∙_}
 use lib.ListN.{drop}
 use Rattle.text.specs.Token.{tokens}

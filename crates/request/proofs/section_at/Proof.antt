@@ -1,3 +1,4 @@
+-- `section_at`: `LENGTH CELL ..)`
 use native.Mathlib.Omega.{arith}
 use lib.ListN.{drop}
 use Rattle.text.specs.Token.{tokens}

@@ -1,3 +1,4 @@
+-- `ship_at`: `RULE EDGE FLOOD)`
 use Rattle.request.proofs.Walks.{then-none, ends-built, nth-kept}
 use Rattle.request.specs.Shape.{ship?, shipRequest, nth}
 use mathlib.Core.Path.{sym, _∙_}

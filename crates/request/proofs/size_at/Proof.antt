@@ -1,3 +1,4 @@
+-- `size_at`
 use borrow.Author.Needs.{needs}
 use Rattle.request.proofs.size_at.Statement.{statement}
 use Rattle.request.proofs.size_at.Tie as tie

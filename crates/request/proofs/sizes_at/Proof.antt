@@ -1,3 +1,4 @@
+-- `sizes_at`: the last `want` numbers of a form, and its closing bracket.
 use Prim.Native.Nat.{_≤_, _-_, _+_}
 use native.Mathlib.Omega.{arith}
 use native.Mathlib.Numerals.{add-one}

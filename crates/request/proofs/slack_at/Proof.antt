@@ -1,3 +1,4 @@
+-- `slack_at`: `LENGTH BREADTH VOID GRAIN)`.
 use mathlib.Core.Path.{_∙_}
 use mathlib.Core.List.{map}
 use native.Mathlib.Omega.{arith}

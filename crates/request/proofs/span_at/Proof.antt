@@ -1,3 +1,4 @@
+-- `span_at`
 use Rattle.text.proofs.Runs.{next-by}
 use Rattle.request.specs.Grammar.{run?}
 use borrow.Author.Needs.{needs}

@@ -1,3 +1,4 @@
+-- `void_at`: `WIDTH DEPTH LIP)`
 use mathlib.Core.List.{map}
 use native.Mathlib.Omega.{arith}
 use lib.ListN.{take, drop}

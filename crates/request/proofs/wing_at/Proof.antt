@@ -1,3 +1,4 @@
+-- `wing_at`: `WIDTH DIST GIRDER LIP)`
 use mathlib.Core.List.{map}
 use native.Mathlib.Omega.{arith}
 use lib.ListN.{take, drop}

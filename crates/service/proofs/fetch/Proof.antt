@@ -1,3 +1,4 @@
+-- `fetch`: reads once, at most `most` bytes; an interrupted read is repeated.
 use mathlib.Core.Path.{_≡_, sym}
 use Prim.Native.Nat.{_≤_}
 use native.Mathlib.Omega.{arith}

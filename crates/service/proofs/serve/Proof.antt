@@ -1,3 +1,4 @@
+-- `serve`: takes lines from standard input until it ends, or this many lines or bytes were read.
 use mathlib.Core.Path.{refl, sym, _∙_}
 use mathlib.Core.Bool.{true, false, cond}
 use Prim.Native.Nat.{_+_, _-_, _*_, _≤_}

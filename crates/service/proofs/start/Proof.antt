@@ -1,3 +1,4 @@
+-- `start`: nothing read, nothing taken.
 use mathlib.Core.Path.{refl}
 use Rattle.lines.proofs.Blocks.{stands-start}
 use borrow.Author.Needs.{needs}

@@ -1,3 +1,4 @@
+-- `write_out`: writes all of a slice; an interrupted write is repeated.
 use Prim.Native.Nat.{_≤_, _-_}
 use lib.ListN.{length}
 use borrow.Author.Needs.{needs}

@@ -1,3 +1,4 @@
+-- `angle_at`
 use mathlib.Core.Path.{refl}
 use Rattle.stability.specs.Angles.{angle}
 use borrow.Author.Needs.{needs}

@@ -1,3 +1,4 @@
+-- `area_above`: the area above zero under a line over t: the general case is the one that needs a long division.
 use Prim.Native.Nat.{_+_, _*_, _^_, _≤_, _<_}
 use native.Mathlib.Omega.{arith}
 use native.Mathlib.Nat.{mul-le-mul, mul-le-mul-left, mul-pos}

@@ -1,3 +1,4 @@
+-- `area_to`: AREA from 0 to UPPER.
 use borrow.Author.Needs.{needs}
 use mathlib.Core.Path.{_≡_, _∙_, ap₂}
 use Prim.Native.Nat.{_+_, _*_, _-_, _^_, _≤_}

@@ -1,3 +1,4 @@
+-- `arm_over`: a thousand times the value at `past` of `span` on the line from x to y: from mm to micrometres.
 use mathlib.Core.Path.{ap}
 use Prim.Native.Nat.{_*_, _≤_}
 use native.Mathlib.Omega.{arith}

@@ -1,3 +1,4 @@
+-- `diff_at`: DIFF at the angle x, rounded down.
 use mathlib.Core.Path.{_≡_, refl, _∙_, ap}
 use Prim.Native.Nat.{suc, _+_, _<_}
 use native.Mathlib.Omega.{arith}

@@ -1,3 +1,4 @@
+-- `differences`: the ten differences.
 use borrow.Author.Needs.{needs}
 use mathlib.Core.Path.{_≡_, _∙_, ap}
 use Prim.Native.Nat.{ℕ, _-_, _≤_, _<_}

@@ -1,3 +1,4 @@
+-- `ends_above`: how far the two ends of the first t of h lie above zero, together, at h times their size.
 use Prim.Native.Nat.{_^_}
 use native.Mathlib.Omega.{arith}
 use native.Mathlib.Nat.{mul-le-mul}

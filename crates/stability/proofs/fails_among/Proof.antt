@@ -1,3 +1,4 @@
+-- `fails_among`: whether DIFF is below zero at one of the ten angles above the heel limit and not above UPPER.
 use borrow.Author.Needs.{needs}
 use mathlib.Core.Path.{_≡_, sym, _∙_, ap}
 use mathlib.Core.Bool.{false, _&&_}

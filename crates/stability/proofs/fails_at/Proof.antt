@@ -1,3 +1,4 @@
+-- `fails_at`: whether DIFF is below zero at the k-th angle, which lies above the heel limit and not above UPPER.
 use mathlib.Core.Path.{refl, _∙_, ap}
 use Prim.Native.Nat.{_≤_, _<_}
 use native.Mathlib.Omega.{arith}

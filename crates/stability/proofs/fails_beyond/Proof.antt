@@ -1,3 +1,4 @@
+-- `fails_beyond`: whether one of the angles that code 42 names fails.
 use mathlib.Core.Path.{refl, sym, _∙_, ap}
 use mir.Facts.{toZ-ofZ}
 use lib.Signed.{ltZ}

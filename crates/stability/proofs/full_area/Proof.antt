@@ -1,3 +1,4 @@
+-- `full_area`: the whole of a stretch of width h.
 use mathlib.Core.Path.{_∙_, ap}
 use native.Mathlib.Omega.{arith}
 use mir.Facts.{toZ-ofZ}

@@ -1,3 +1,4 @@
+-- `heel_limit`
 use native.Mathlib.Omega.{arith}
 use borrow.Author.Needs.{needs}
 use Rattle.stability.proofs.heel_limit.Statement.{statement}

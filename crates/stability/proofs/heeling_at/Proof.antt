@@ -1,3 +1,4 @@
+-- `heeling_at`: the heeling arm at the k-th angle, rounded up.
 use mathlib.Core.Path.{_≡_, refl}
 use Prim.Native.Nat.{_-_, _≤_}
 use native.Mathlib.Omega.{arith}

@@ -1,3 +1,4 @@
+-- `judge`: the verdict on a ship, from two columns around D, a load and a weight moment within their limits.
 use mathlib.Core.Path.{_≡_, refl, _∙_}
 use mir.Facts.{toZ-ofZ}
 use borrow.Author.Needs.{sfits-of}

@@ -1,3 +1,4 @@
+-- `judgement_of`: the first test that fails.
 use mathlib.Core.Path.{refl}
 use mir.Facts.{toZ-ofZ}
 use borrow.Author.Tests.{lt-ltb, le-ltb}

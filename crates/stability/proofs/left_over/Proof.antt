@@ -1,3 +1,4 @@
+-- `left_over`: the difference of a righting arm and a heeling arm.
 use Rattle.stability.proofs.Tens.{left-over-is}
 use mathlib.Core.Path.{_∙_, ap}
 use native.Mathlib.Omega.{arith}

@@ -1,3 +1,4 @@
+-- `part_area`: the part t of a stretch of width h.
 use mathlib.Core.Path.{refl, _∙_, ap}
 use Prim.Native.Nat.{_^_, _≤_}
 use native.Mathlib.Omega.{arith}

@@ -1,3 +1,4 @@
+-- `peak_of`: the least place at which ds is greatest.
 use borrow.Author.Needs.{needs}
 use mathlib.Core.Path.{_≡_}
 use mathlib.Core.List.{List}

@@ -1,3 +1,4 @@
+-- `reach_of`
 use mathlib.Core.Path.{refl}
 use Rattle.stability.proofs.Bounds.{span-some, span-le, past-le, fluid-le}
 use borrow.Author.Needs.{needs}

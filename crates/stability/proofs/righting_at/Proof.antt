@@ -1,3 +1,4 @@
+-- `righting_at`: the righting arm at the k-th angle: KN rounded down less fluid KG times the sine rounded up.
 use mathlib.Core.Path.{_≡_, refl, _∙_, ap, ap₂}
 use Prim.Native.Nat.{_≤_}
 use native.Mathlib.Omega.{arith}

@@ -1,3 +1,4 @@
+-- `sine_at`
 use mathlib.Core.Path.{refl}
 use Rattle.stability.specs.Angles.{sine}
 use borrow.Author.Needs.{needs}

@@ -1,3 +1,4 @@
+-- `stretch_area`: the stretch behind the k-th angle, up to UPPER.
 use mathlib.Core.Path.{_≡_, refl, _∙_, ap, ap₂}
 use Prim.Native.Nat.{suc, _+_, _-_, _≤_, _<_}
 use native.Mathlib.Omega.{arith}

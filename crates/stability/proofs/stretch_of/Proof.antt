@@ -1,3 +1,4 @@
+-- `stretch_of`: the stretch in which the angle x lies.
 use borrow.Author.Needs.{needs}
 use mathlib.Core.Path.{_≡_, sym, _∙_}
 use Prim.Native.Nat.{_≤_}

@@ -1,3 +1,4 @@
+-- `verdict_from`: the verdict on ten DIFFs.
 use mathlib.Core.Path.{_≡_, refl, _∙_, ap}
 use Prim.Native.Nat.{_<_, min}
 use native.Mathlib.Omega.{arith}

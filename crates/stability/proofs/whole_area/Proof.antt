@@ -1,3 +1,4 @@
+-- `whole_area`: the same for a whole stretch, with the ends at their own size: one division.
 use mathlib.Core.Path.{refl}
 use native.Mathlib.Omega.{arith}
 use native.Mathlib.Nat.{mul-le-mul, mul-zero, zero-div}

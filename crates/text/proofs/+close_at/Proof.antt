@@ -1,3 +1,4 @@
+-- `close_at`: the place behind the form whose opening bracket stands just before `at`, with forms inside it nested at most `left` deeper.
 use borrow.Author.Needs.{needs}
 use Prim.Native.Nat.{_≤_, _-_}
 use mathlib.Core.Path.{_≡_, sym, _∙_, ap}

@@ -1,3 +1,4 @@
+-- `all_allowed`: 11: whether every byte may.
 use borrow.Author.Needs.{needs}
 use Rattle.text.specs.Line.{allowed, tested}
 use Rattle.whole.specs.Lists.{all}

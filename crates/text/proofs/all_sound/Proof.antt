@@ -1,3 +1,4 @@
+-- `all_sound`: 13: whether every run of a line that starts with a digit is a number.
 use borrow.Author.Needs.{needs}
 use mathlib.Core.Path.{_≡_, sym, _∙_, ap}
 use native.Mathlib.Omega.{arith}

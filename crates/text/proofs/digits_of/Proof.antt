@@ -1,3 +1,4 @@
+-- `digits_of`: the number that digits say, a zero in front or not.
 use borrow.Author.Needs.{needs}
 use Rattle.text.specs.Places.{digitsFrom}
 use Prim.Native.Nat.{_≤_, _-_}

@@ -1,3 +1,4 @@
+-- `in_run`: whether a byte is a letter or a digit.
 use borrow.Author.Needs.{needs}
 use Rattle.text.proofs.in_run.Statement.{statement}
 use Rattle.text.proofs.in_run.Tie as tie

@@ -1,3 +1,4 @@
+-- `is_allowed`: whether a byte may stand in a line.
 use borrow.Author.Needs.{needs}
 use Rattle.text.proofs.is_allowed.Statement.{statement}
 use Rattle.text.proofs.is_allowed.Tie as tie

@@ -1,3 +1,4 @@
+-- `is_sound`: 13: whether a run that starts with a digit is a number.
 use mathlib.Core.Path.{sym, _∙_, ap}
 use borrow.Author.Tests.{not-true, not-false}
 use Rattle.text.proofs.Numbers.{sound-none, sound-word, sound-number, says}

@@ -1,3 +1,4 @@
+-- `is_within`: whether lo <= b <= hi.
 use Rattle.whole.specs.Lists.{within}
 use borrow.Author.Needs.{needs}
 use Rattle.text.proofs.is_within.Statement.{statement}

@@ -1,3 +1,4 @@
+-- `next_at`: the next token from `at` on.
 use mathlib.Core.Path.{sym, ap, _∙_}
 use Rattle.text.specs.declared.Next.the-variants.{Run}
 use Rattle.text.proofs.Runs.{next-end, next-open, next-close, next-run}

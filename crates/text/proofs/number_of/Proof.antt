@@ -1,3 +1,4 @@
+-- `number_of`: the number that a run says.
 use mathlib.Core.Path.{sym, _∙_}
 use native.Mathlib.Omega.{arith}
 use Rattle.text.proofs.Numbers.{number-none, number-digits, number-zeros}

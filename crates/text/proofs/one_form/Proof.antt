@@ -1,3 +1,4 @@
+-- `one_form`: 12: whether a line is one closed form, with only spaces outside it and at most four brackets open.
 use mathlib.Core.Path.{sym, _∙_, ap}
 use borrow.Author.Tests.{eq-eqb, ne-eqb}
 use Rattle.text.specs.Line.{tested}

@@ -1,3 +1,4 @@
+-- `reading_of`: the first test that a line fails, each made over the entire line before the next.
 use mathlib.Core.Path.{sym}
 use Rattle.text.proofs.Order.{passed, failed, too-long, bad-byte, not-one-form, bad-number, is-sound}
 use borrow.Author.Needs.{needs}

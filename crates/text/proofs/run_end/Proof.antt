@@ -1,3 +1,4 @@
+-- `run_end`: the place behind the run that starts at `at`.
 use borrow.Author.Needs.{needs}
 use Rattle.text.specs.Places.{runLength}
 use Prim.Native.Nat.{_≤_, _-_, _+_}

@@ -1,3 +1,4 @@
+-- `same`: whether two runs have the same bytes.
 use Rattle.text.specs.Token.{same}
 use Rattle.text.proofs.Runs.{same-short, same-not, same-more, same-last}
 use Prim.Native.Nat.{_≤_, _-_}

@@ -1,3 +1,4 @@
+-- `skip`: the place behind the spaces that stand at `at`.
 use borrow.Author.Needs.{needs}
 use Rattle.text.specs.Places.{spaces}
 use Prim.Native.Nat.{_≤_, _-_, _+_}

@@ -1,3 +1,4 @@
+-- `starts_token`
 use borrow.Author.Needs.{needs}
 use Rattle.text.proofs.starts_token.Statement.{statement}
 use Rattle.text.proofs.starts_token.Tie as tie

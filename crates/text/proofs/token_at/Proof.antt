@@ -1,3 +1,4 @@
+-- `token_at`: the place of the next token, or the end of the line.
 use Rattle.text.specs.Places.{gap}
 use Rattle.text.proofs.Runs.{gap-on, gap-off, gap-out}
 use Prim.Native.Nat.{_≤_, _-_, _+_}

@@ -1,3 +1,4 @@
+-- `in_order`: whether each column held is within its limits and above the one before.
 use mathlib.Core.Path.{_≡_, refl, sym, _∙_, ap}
 use Prim.Native.Nat.{_≤_, _<_, _+_, _-_}
 use native.Mathlib.Omega.{arith}
@@ -6,13 +7,13 @@ use lib.Seq.{getD-take}
 use borrow.Author.Tests.{not-true, not-false}
 use Rattle.whole.proofs.Lists.{unmapped}
 use Rattle.record.specs.Held.{held}
 use Rattle.columns.specs.Columns.{inOrder}
 use Rattle.limits.specs.Limits.{columnLimits}
 use Rattle.record.proofs.Taken.{pastColumn}
-use Rattle.panel.proofs.Columns.{order-none, order-limits, order-last, order-not-above, order-next}
+use Rattle.columns.proofs.Order.{order-none, order-limits, order-last, order-not-above, order-next}
 use borrow.Author.Needs.{needs}
-use Rattle.panel.proofs.in_order.Statement.{statement}
-use Rattle.panel.proofs.in_order.Tie as tie
+use Rattle.columns.proofs.in_order.Statement.{statement}
+use Rattle.columns.proofs.in_order.Tie as tie
 
 abbrev Inv-loop : tie.InvT-loop
 Inv-loop cs n i₀ i = (length (cs .places) ≡ 20) × (n ≡ length (held cs)) × (n ≤ 20) × (i ≤ 20) × (inOrder (drop i (held cs)) ≡ inOrder (held cs))
