@@ -1,3 +1,4 @@
+pub mod Scans
 pub mod Closing
 pub mod Walks
 pub mod Numbers

@@ -8,9 +8,9 @@ use lib.Dec.{leb}
 use lib.ListN.{length, getD, drop}
 use borrow.Author.Tests.{ne-eqb, le-leb, lt-leb}
 use Rattle.whole.specs.Lists.{all}
-use Rattle.text.specs.Token.{isDigit, inRun, valueFrom, value, needlessZero, isNumber, numberOf}
+use Rattle.text.specs.Token.{isDigit, valueFrom, value, needlessZero, isNumber, numberOf}
 use Rattle.text.specs.Line.{numberIfDigit}
-use Rattle.text.specs.Places.{runLength, digitsFrom}
+use Rattle.text.specs.Places.{digitsFrom}
 use Rattle.text.specs.declared.Number.{Number}
 use Rattle.text.specs.declared.Number.the-variants.{Is, Bad}
 use Rattle.whole.proofs.Lists.{and-false, drop-next, drop-end}
@@ -41,10 +41,6 @@ module _ (s : List ℕ) (i : ℕ) where
   pub digits-out : (v : ℕ) → v ≤ 999999999 → length s ≤ i → digitsFrom v (drop i s) ≡ Is v
   digits-out v q p = rw (drop-end s i 0 p) (no-more v q)
 
-  pub run-out : length s ≤ i → runLength (drop i s) ≡ 0
-  unfolding runLength
-  run-out p = rw (drop-end s i 0 p)
-
   module _ (p : i < length s) where
     pub digits-bad : (v : ℕ) → isDigit (getD s i 0) ≡ false → digitsFrom v (drop i s) ≡ Bad
     digits-bad v e = rw (drop-next s i 0 p) (one-bad v (getD s i 0) (drop (i + 1) s) e)
@@ -54,14 +50,6 @@ module _ (s : List ℕ) (i : ℕ) where
 
     pub digits-large : (v : ℕ) → isDigit (getD s i 0) ≡ true → 999999999 < 10 * v + (getD s i 0 - 48) → digitsFrom v (drop i s) ≡ Bad
     digits-large v e q = digits-on v e ∙ too-large (10 * v + (getD s i 0 - 48)) (drop (i + 1) s) q
-
-    pub run-on : inRun (getD s i 0) ≡ true → runLength (drop i s) ≡ suc (runLength (drop (i + 1) s))
-    unfolding runLength
-    run-on e = rw (drop-next s i 0 p, e)
-
-    pub run-off : inRun (getD s i 0) ≡ false → runLength (drop i s) ≡ 0
-    unfolding runLength
-    run-off e = rw (drop-next s i 0 p, e)
 
 -- a number: digits without a needless zero
 pub number-none : (r : List ℕ) → length r ≡ 0 → numberOf r ≡ Bad

@@ -1,24 +1,25 @@
 -- Laws of tokens, and of the test that every number is sound.
 use mathlib.Core.Path.{_≡_, refl, sym, _∙_, ap, subst}
-use mathlib.Core.Bool.{Bool, true, false, cond, _&&_, _||_}
+use mathlib.Core.Bool.{Bool, true, false, cond, not, _&&_, _||_}
 use mathlib.Core.List.{List, [], _∷_}
 use Prim.Native.Nat.{ℕ, suc, _+_, _-_, _≤_, _<_}
 use native.Mathlib.Decide.{ℕ-discrete, decLt}
 use native.Mathlib.Omega.{arith}
 use lib.Dec.{eqb, leb}
 use lib.ListN.{length, getD, take, drop, length-drop}
-use lib.Seq.{drop-drop, getD-drop}
+use lib.Seq.{drop-drop}
 use Rattle.whole.specs.Lists.{all, within}
-use borrow.Author.Tests.{ne-eqb, eq-eqb, leb-true, leb-false}
+use borrow.Author.Tests.{ne-eqb, eq-eqb, leb-true, leb-false, not-true, not-false}
 use Rattle.text.specs.Token.{opened, closed, run, opening, closing, inRun, startsRun, glue, tokens, same}
 use Rattle.text.specs.Line.{numberIfDigit, soundToken}
-use Rattle.text.specs.Places.{runLength, startsToken, gap, tokenAt, nextOf}
+use Rattle.text.specs.Places.{prefix, runLength, otherLength, startsToken, gap, tokenAt, nextOf}
 use Rattle.text.specs.declared.Next.{Next}
 use Rattle.text.specs.declared.Next.the-variants.{Open, Close, Run, End}
 use Rattle.whole.proofs.Lists.{drop-next, drop-end}
+use Rattle.text.proofs.Scans.{prefix-on, prefix-off, prefix-le, scan-over, scan-stop}
 
 no-run : (s : List ℕ) → startsRun s ≡ false → runLength s ≡ 0
-unfolding runLength
+unfolding prefix
 no-run [] e = refl
 no-run (b ∷ s) e = rw e
 
@@ -29,19 +30,10 @@ run-by b s false e ih = rw (no-run s e)
 
 -- a run is one token
 pub run-token : (l : List ℕ) → startsRun l ≡ true → tokens l ≡ run (take (runLength l) l) ∷ tokens (drop (runLength l) l)
-unfolding tokens runLength
+unfolding tokens prefix
 run-token [] e =
     let z : _≡_ {A = ℕ} 0 1 = cc in absurd (omega arith)
 run-token (b ∷ s) e = rw e (run-by b s (startsRun s) refl (run-token s))
-
-length-by : (b : ℕ) (s : List ℕ) (x : Bool) → runLength s ≤ length s → cond x (suc (runLength s)) 0 ≤ suc (length s)
-length-by b s true p = omega arith
-length-by b s false p = omega arith
-
-pub run-within : (l : List ℕ) → runLength l ≤ length l
-unfolding runLength
-run-within [] = omega arith
-run-within (b ∷ s) = length-by b s (inRun b) (run-within s)
 
 abbrev pub sound : List ℕ → Bool
 sound s = all soundToken (tokens s)
@@ -56,46 +48,47 @@ pub one-other : (b : ℕ) (s : List ℕ) → inRun b ≡ false → sound (b ∷ 
 unfolding tokens
 one-other b s e = rw e (other-by b s (eqb b opening) (eqb b closing))
 
-pub starts : (b : ℕ) (s : List ℕ) → inRun b ≡ true → sound (b ∷ s) ≡ (numberIfDigit (take (runLength (b ∷ s)) (b ∷ s)) && sound (drop (runLength (b ∷ s)) (b ∷ s)))
+-- the run in front, empty or not, and what stands behind it
+front-by : (l : List ℕ) (x : Bool) → startsRun l ≡ x → sound l ≡ (numberIfDigit (take (runLength l) l) && sound (drop (runLength l) l))
 unfolding all
-starts b s e = rw (run-token (b ∷ s) e)
+front-by l true e = rw (run-token l e)
+front-by l false e = rw (no-run l e)
 
-pub one-long : (b : ℕ) (s : List ℕ) → inRun b ≡ true → 0 < runLength (b ∷ s)
-unfolding runLength
-one-long b s e = rw e (omega arith)
+pub sound-front : (l : List ℕ) → sound l ≡ (numberIfDigit (take (runLength l) l) && sound (drop (runLength l) l))
+sound-front l = front-by l (startsRun l) refl
 
 pub sound-end : (s : List ℕ) (i : ℕ) → length s ≤ i → sound (drop i s) ≡ true
 unfolding all tokens
 sound-end s i p = rw (drop-end s i 0 p)
 
-module _ (s : List ℕ) (i : ℕ) (p : i < length s) where
-  pub sound-other : inRun (getD s i 0) ≡ false → sound (drop i s) ≡ sound (drop (i + 1) s)
-  sound-other e = rw (drop-next s i 0 p) (one-other (getD s i 0) (drop (i + 1) s) e)
+-- of the run in front and what is of no run behind it, one is not empty
+some-by : (b : ℕ) (t : List ℕ) (x : Bool) → inRun b ≡ x → 0 < runLength (b ∷ t) + otherLength (drop (runLength (b ∷ t)) (b ∷ t))
+some-by b t true e = rw (prefix-on inRun b t e) (omega arith)
+some-by b t false e = rw (prefix-off inRun b t e, prefix-on (λ b. not (inRun b)) b t (rw e)) (omega arith)
 
-  sound-run : inRun (getD s i 0) ≡ true → sound (drop i s) ≡ (numberIfDigit (take (runLength (drop i s)) (drop i s)) && sound (drop (runLength (drop i s)) (drop i s)))
-  sound-run e = rw (drop-next s i 0 p) (starts (getD s i 0) (drop (i + 1) s) e)
+-- a step over the run r, which stands from i to q, and over what is of no run, from q to n
+module _ (s : List ℕ) (i q : ℕ) (r : List ℕ) (there : q ≡ i + runLength (drop i s)) (is : r ≡ take (q - i) (drop i s)) where
+  behind : drop (runLength (drop i s)) (drop i s) ≡ drop q s
+  behind = drop-drop (runLength (drop i s)) i s ∙ rw (← there)
 
-  run-long : inRun (getD s i 0) ≡ true → 0 < runLength (drop i s)
-  run-long e = rw (drop-next s i 0 p) (one-long (getD s i 0) (drop (i + 1) s) e)
+  front : sound (drop i s) ≡ (numberIfDigit r && sound (drop q s))
+  front =
+      let n : q - i ≡ runLength (drop i s) = omega arith in
+      let g : r ≡ take (runLength (drop i s)) (drop i s) = is ∙ rw n in
+      sound-front (drop i s) ∙ rw (← g, behind)
 
--- a step over the run r, which stands from i to q
-pub record Passes (s : List ℕ) (i q : ℕ) (r : List ℕ) : Type 0 where
-  pub long : i < q
-  pub good : numberIfDigit r ≡ true → sound (drop i s) ≡ sound (drop q s)
-  pub bad : numberIfDigit r ≡ false → sound (drop i s) ≡ false
+  pub run-bad : numberIfDigit r ≡ false → sound (drop i s) ≡ false
+  run-bad e = front ∙ rw e
 
-pub passes :
-    (s : List ℕ) (i q : ℕ) (r : List ℕ) → i < length s → inRun (getD s i 0) ≡ true → q ≡ i + runLength (drop i s) →
-    r ≡ take (q - i) (drop i s) → Passes s i q r
-passes s i q r p b e f =
-    let n : q - i ≡ runLength (drop i s) = omega arith in
-    let g : r ≡ take (runLength (drop i s)) (drop i s) = f ∙ rw n in
-    let d : drop (runLength (drop i s)) (drop i s) ≡ drop q s = drop-drop (runLength (drop i s)) i s ∙ rw (← e) in
-    record {
-      long = omega (arith, run-long s i p b);
-      good = λ x. sound-run s i p b ∙ rw (← g, x, d);
-      bad = λ x. sound-run s i p b ∙ rw (← g, x);
-    }
+  module _ (n : ℕ) (next : n ≡ q + otherLength (drop q s)) where
+    pub run-good : numberIfDigit r ≡ true → sound (drop i s) ≡ sound (drop n s)
+    run-good e = front ∙ rw e (scan-over (λ b. not (inRun b)) s q n next sound (λ b t f. one-other b t (not-true _ f)))
+
+    pub run-next : i < length s → i < n
+    run-next p =
+        let m : 0 < runLength (drop i s) + otherLength (drop (runLength (drop i s)) (drop i s)) = rw (drop-next s i 0 p) (some-by (getD s i 0) (drop (i + 1) s) (inRun (getD s i 0)) refl) in
+        let o : otherLength (drop (runLength (drop i s)) (drop i s)) ≡ otherLength (drop q s) = ap otherLength behind in
+        omega arith
 
 -- ---- two runs, compared byte by byte
 module _ (a b : List ℕ) (i : ℕ) where
@@ -131,23 +124,11 @@ module _ (a b : List ℕ) (i : ℕ) where
 
 -- ---- the way to the next token
 module _ (s : List ℕ) (i : ℕ) where
-  pub gap-out : length s ≤ i → gap (drop i s) ≡ 0
-  unfolding gap
-  gap-out p = rw (drop-end s i 0 p)
-
   tokens-out : length s ≤ i → tokens (drop i s) ≡ []
   unfolding tokens
   tokens-out p = rw (drop-end s i 0 p)
 
   module _ (p : i < length s) where
-    pub gap-on : startsToken (getD s i 0) ≡ false → gap (drop i s) ≡ suc (gap (drop (i + 1) s))
-    unfolding gap
-    gap-on e = rw (drop-next s i 0 p, e)
-
-    pub gap-off : startsToken (getD s i 0) ≡ true → gap (drop i s) ≡ 0
-    unfolding gap
-    gap-off e = rw (drop-next s i 0 p, e)
-
     tokens-open : getD s i 0 ≡ 40 → tokens (drop i s) ≡ opened ∷ tokens (drop (i + 1) s)
     unfolding tokens within
     tokens-open e = rw (drop-next s i 0 p, e)
@@ -167,25 +148,6 @@ no-token b s false true z e f g h =
 no-token b s false false true e f g h =
     let w : _≡_ {A = ℕ} 0 1 = cc in absurd (omega arith)
 
-gap-by : (b : ℕ) (s : List ℕ) (x : Bool) → startsToken b ≡ x → tokens s ≡ tokens (drop (gap s) s) → tokens (b ∷ s) ≡ tokens (drop (cond x 0 (suc (gap s))) (b ∷ s))
-gap-by b s true e ih = refl
-gap-by b s false e ih = no-token b s (inRun b) (eqb b 40) (eqb b 41) refl refl refl e ∙ ih
-
-over-gap : (l : List ℕ) → tokens l ≡ tokens (drop (gap l) l)
-unfolding gap
-over-gap [] = refl
-over-gap (b ∷ s) = gap-by b s (startsToken b) refl (over-gap s)
-
--- a token begins behind the gap
-stop-by : (b : ℕ) (s : List ℕ) (x : Bool) → startsToken b ≡ x → (gap s < length s → startsToken (getD s (gap s) 0) ≡ true) → cond x 0 (suc (gap s)) < suc (length s) → startsToken (getD (b ∷ s) (cond x 0 (suc (gap s))) 0) ≡ true
-stop-by b s true e ih p = e
-stop-by b s false e ih p = ih (omega arith)
-
-gap-stop : (l : List ℕ) → gap l < length l → startsToken (getD l (gap l) 0) ≡ true
-unfolding gap
-gap-stop [] p = absurd (omega arith)
-gap-stop (b ∷ s) p = stop-by b s (startsToken b) refl (gap-stop s) p
-
 in-run-else : (b : ℕ) → startsToken b ≡ true → (b ≡ 40 → ⊥) → (b ≡ 41 → ⊥) → inRun b ≡ true
 in-run-else b e p q = by (inRun b) (eqb b 40) (eqb b 41) (ne-eqb b 40 p) (ne-eqb b 41 q) e
   where
@@ -204,7 +166,7 @@ NextIs s p End = tokens (drop p s) ≡ []
 -- the next token stands at the place p, behind the gap
 module _ (s : List ℕ) (at p : ℕ) (there : p ≡ at + gap (drop at s)) where
   to-token : tokens (drop at s) ≡ tokens (drop p s)
-  to-token = over-gap (drop at s) ∙ ap tokens (drop-drop (gap (drop at s)) at s ∙ rw (← there))
+  to-token = scan-over (λ b. not (startsToken b)) s at p there tokens (λ b t e. no-token b t (inRun b) (eqb b 40) (eqb b 41) refl refl refl (not-true _ e))
 
   next-there : nextOf s at ≡ tokenAt (drop p s) p
   unfolding nextOf
@@ -216,9 +178,7 @@ module _ (s : List ℕ) (at p : ℕ) (there : p ≡ at + gap (drop at s)) where
 
   module _ (h : p < length s) where
     starts-there : startsToken (getD s p 0) ≡ true
-    starts-there =
-        let n = length-drop at s in
-        rw (there, ← getD-drop at s (gap (drop at s)) 0) (gap-stop (drop at s) (omega arith))
+    starts-there = not-false _ (scan-stop (λ b. not (startsToken b)) s at p there h)
 
     pub next-open : getD s p 0 ≡ 40 → nextOf s at ≡ Open (p + 1)
     unfolding tokenAt
@@ -240,7 +200,7 @@ module _ (s : List ℕ) (at p : ℕ) (there : p ≡ at + gap (drop at s)) where
       run-is =
           let n : p + runLength (drop p s) - p ≡ runLength (drop p s) = omega arith in
           let d = drop-drop (runLength (drop p s)) p s in
-          (to-token ∙ run-token (drop p s) run-there ∙ rw (n, d), omega arith, omega (arith, run-within (drop p s), length-drop p s))
+          (to-token ∙ run-token (drop p s) run-there ∙ rw (n, d), omega arith, omega (arith, prefix-le inRun (drop p s), length-drop p s))
 
     within-is : NextIs s at (nextOf s at)
     within-is = by (ℕ-discrete (getD s p 0) 40) (ℕ-discrete (getD s p 0) 41)

@@ -8,25 +8,13 @@ use lib.Dec.{eqb, ltb}
 use lib.ListN.{length, getD, drop, length-drop}
 use borrow.Author.Tests.{ne-eqb, eq-eqb, eqb-true, eqb-false, lt-ltb, le-ltb}
 use lib.Seq.{drop-drop}
+use Rattle.text.specs.Token.{space}
 use Rattle.text.specs.Line.{before, inside, behind, wrong, outOf, walked, isBehind, oneForm}
 use Rattle.text.specs.Places.{spaces, closeAt}
 use Rattle.text.specs.declared.Closed.{Closed}
 use Rattle.text.specs.declared.Closed.the-variants.{At, Nowhere}
 use Rattle.whole.proofs.Lists.{drop-next, drop-end}
-
-module _ (s : List ℕ) (i : ℕ) where
-  pub spaces-out : length s ≤ i → spaces (drop i s) ≡ 0
-  unfolding spaces
-  spaces-out p = rw (drop-end s i 0 p)
-
-  module _ (p : i < length s) where
-    pub spaces-on : getD s i 0 ≡ 32 → spaces (drop i s) ≡ suc (spaces (drop (i + 1) s))
-    unfolding spaces
-    spaces-on e = rw (drop-next s i 0 p, e)
-
-    pub spaces-off : (getD s i 0 ≡ 32 → ⊥) → spaces (drop i s) ≡ 0
-    unfolding spaces
-    spaces-off e = rw (drop-next s i 0 p, ne-eqb _ 32 e)
+use Rattle.text.proofs.Scans.{scan-over, scan-stop}
 
 -- a walk that went wrong stays wrong
 pub walked-wrong : (most : ℕ) (l : List ℕ) → walked most wrong l ≡ wrong
@@ -35,38 +23,31 @@ walked-wrong most [] = refl
 walked-wrong most (b ∷ s) = walked-wrong most s
 
 -- over the spaces before a form
-before-by : (most b : ℕ) (s : List ℕ) (x : Bool) → eqb b 32 ≡ x → walked most before s ≡ walked most before (drop (spaces s) s) → walked most before (b ∷ s) ≡ walked most before (drop (cond x (suc (spaces s)) 0) (b ∷ s))
+one-before : (most b : ℕ) (s : List ℕ) → eqb b space ≡ true → walked most before (b ∷ s) ≡ walked most before s
 unfolding walked
-before-by most b s true e ih = rw (eqb-true b 32 e) ih
-before-by most b s false e ih = refl
-
-pub before-spaces : (most : ℕ) (l : List ℕ) → walked most before l ≡ walked most before (drop (spaces l) l)
-unfolding walked spaces
-before-spaces most [] = refl
-before-spaces most (b ∷ s) = before-by most b s (eqb b 32) refl (before-spaces most s)
-
--- two tests that pass together
-alike-by : (a b c d : ℕ) (x : Bool) → eqb a b ≡ x → (a ≡ b → c ≡ d) → (c ≡ d → a ≡ b) → x ≡ eqb c d
-alike-by a b c d true e f g = sym (eq-eqb c d (f (eqb-true a b e)))
-alike-by a b c d false e f g = sym (ne-eqb c d (λ h. eqb-false a b e (g h)))
-
-alike : (a b c d : ℕ) → (a ≡ b → c ≡ d) → (c ≡ d → a ≡ b) → eqb a b ≡ eqb c d
-alike a b c d f g = alike-by a b c d (eqb a b) refl f g
+one-before most b s e = rw e
 
 -- behind a form only spaces stand
-behind-by : (most b : ℕ) (s : List ℕ) (x : Bool) → eqb b 32 ≡ x → isBehind (walked most behind s) ≡ eqb (spaces s) (length s) → isBehind (walked most (cond x behind wrong) s) ≡ eqb (cond x (suc (spaces s)) 0) (suc (length s))
-behind-by most b s true e ih = ih ∙ alike (spaces s) (length s) (suc (spaces s)) (suc (length s)) (λ h. omega arith) (λ h. omega arith)
-behind-by most b s false e ih = rw (walked-wrong most s, ne-eqb 0 (suc (length s)) (omega arith))
+one-behind : (most b : ℕ) (s : List ℕ) → eqb b space ≡ true → isBehind (walked most behind (b ∷ s)) ≡ isBehind (walked most behind s)
+unfolding walked
+one-behind most b s e = rw e
 
-pub behind-spaces : (most : ℕ) (l : List ℕ) → isBehind (walked most behind l) ≡ eqb (spaces l) (length l)
-unfolding walked spaces
-behind-spaces most [] = refl
-behind-spaces most (b ∷ s) = behind-by most b s (eqb b 32) refl (behind-spaces most s)
+other-behind : (most b : ℕ) (s : List ℕ) → eqb b space ≡ false → isBehind (walked most behind (b ∷ s)) ≡ false
+unfolding walked
+other-behind most b s e = rw (e, walked-wrong most s)
 
-pub ends-there : (most : ℕ) (s : List ℕ) (q r : ℕ) → q ≤ length s → r ≡ q + spaces (drop q s) → isBehind (walked most behind (drop q s)) ≡ eqb r (length s)
-ends-there most s q r p e =
-    let n = length-drop q s in
-    behind-spaces most (drop q s) ∙ alike (spaces (drop q s)) (length (drop q s)) r (length s) (λ h. omega arith) (λ h. omega arith)
+module _ (most : ℕ) (s : List ℕ) (q r : ℕ) (there : r ≡ q + spaces (drop q s)) where
+  to-there : isBehind (walked most behind (drop q s)) ≡ isBehind (walked most behind (drop r s))
+  to-there = scan-over (λ b. eqb b space) s q r there (λ l. isBehind (walked most behind l)) (one-behind most)
+
+  pub ends-there : length s ≤ r → isBehind (walked most behind (drop q s)) ≡ true
+  unfolding walked
+  ends-there p = to-there ∙ rw (drop-end s r 0 p)
+
+  pub ends-short : r < length s → isBehind (walked most behind (drop q s)) ≡ false
+  ends-short p =
+      to-there
+      ∙ rw (drop-next s r 0 p) (other-behind most (getD s r 0) (drop (r + 1) s) (scan-stop (λ b. eqb b space) s q r there p))
 
 -- over a form: what remains is behind its closing bracket
 abbrev pub afterClose : ℕ → List ℕ → Closed → Bool
@@ -109,27 +90,14 @@ module _ (w : List ℕ) (most : ℕ) where
       rw d (one-byte s p left k b (eqb b 41) (eqb b 40) refl refl f (λ left k. walk-close s (p + 1) left k f) m)
 
 -- a form starts with its bracket
-neither : (most b : ℕ) (s : List ℕ) → (b ≡ 32 → ⊥) → (b ≡ 40 → ⊥) → isBehind (walked most before (b ∷ s)) ≡ false
+neither : (most b : ℕ) (s : List ℕ) → eqb b space ≡ false → (b ≡ 40 → ⊥) → isBehind (walked most before (b ∷ s)) ≡ false
 unfolding walked
-neither most b s p q = rw (ne-eqb b 32 p, ne-eqb b 40 q, walked-wrong most s)
-
--- no space stands behind the spaces
-stop-by : (b : ℕ) (s : List ℕ) (x : Bool) → eqb b 32 ≡ x → (spaces s < length s → getD s (spaces s) 0 ≡ 32 → ⊥) → cond x (suc (spaces s)) 0 < suc (length s) → getD (b ∷ s) (cond x (suc (spaces s)) 0) 0 ≡ 32 → ⊥
-stop-by b s true e ih p q = ih (omega arith) q
-stop-by b s false e ih p q = eqb-false b 32 e q
-
-spaces-stop : (l : List ℕ) → spaces l < length l → getD l (spaces l) 0 ≡ 32 → ⊥
-unfolding spaces
-spaces-stop [] p q = absurd (omega arith)
-spaces-stop (b ∷ s) p q = stop-by b s (eqb b 32) refl (spaces-stop s) p q
+neither most b s e q = rw (e, ne-eqb b 40 q, walked-wrong most s)
 
 -- a line: its spaces, its opening bracket, its form, and spaces to its end
 module _ (s : List ℕ) (i : ℕ) (there : i ≡ 0 + spaces (drop 0 s)) where
-  e : i ≡ spaces s
-  e = omega (arith, there)
-
   from-there : (most : ℕ) → oneForm most s ≡ isBehind (walked most before (drop i s))
-  from-there most = rw (e, ← before-spaces most s)
+  from-there most = ap isBehind (scan-over (λ b. eqb b space) s 0 i there (walked most before) (one-before most))
 
   pub no-form : (most : ℕ) → length s ≤ i → oneForm most s ≡ false
   unfolding walked
@@ -137,7 +105,7 @@ module _ (s : List ℕ) (i : ℕ) (there : i ≡ 0 + spaces (drop 0 s)) where
 
   module _ (p : i < length s) where
     pub not-opened : (most : ℕ) → (getD s i 0 ≡ 40 → ⊥) → oneForm most s ≡ false
-    not-opened most a = from-there most ∙ rw (drop-next s i 0 p) (neither most (getD s i 0) (drop (i + 1) s) (rw e (spaces-stop s (omega arith))) a)
+    not-opened most a = from-there most ∙ rw (drop-next s i 0 p) (neither most (getD s i 0) (drop (i + 1) s) (scan-stop (λ b. eqb b space) s 0 i there p) a)
 
     pub form-from : (left : ℕ) → getD s i 0 ≡ 40 → oneForm (left + 1) s ≡ afterClose (left + 1) s (closeAt (drop (i + 1) s) (i + 1) left 0)
     unfolding walked

@@ -12,9 +12,10 @@ use Rattle.whole.specs.Lists.{all}
 use Rattle.whole.proofs.Lists.{and-false, within-true, within-by, all-append, all-at}
 use Rattle.text.specs.Token.{Token, opened, closed, run, isLetter, isDigit, inRun, startsRun, glue, tokens, isNumber}
 use Rattle.text.specs.Line.{numberIfDigit, soundToken}
-use Rattle.text.specs.Places.{runLength}
+use Rattle.text.specs.Places.{prefix, runLength}
 use Rattle.text.specs.Codes.{LetterOrDigit, letter, digit, NumberIs, Run, NoNumber}
-use Rattle.text.proofs.Runs.{run-token, run-within, sound, one-other, starts, one-long}
+use Rattle.text.proofs.Runs.{run-token, sound, one-other, sound-front}
+use Rattle.text.proofs.Scans.{prefix-on, prefix-le, prefix-all}
 use Rattle.text.proofs.Decimals.{decimal-number, number-decimal}
 
 -- ---- letters and digits
@@ -69,17 +70,8 @@ tokens-append (x ∷ y ∷ s) b e = rw (tokens-append (y ∷ s) b e) (by (inRun 
     by false false false = refl
 
 -- ---- the run in front of a list
-run-all : (l : List ℕ) → all inRun (take (runLength l) l) ≡ true
-unfolding all runLength
-run-all [] = refl
-run-all (b ∷ s) = by (inRun b) refl (run-all s)
-  where
-    by : (x : Bool) → inRun b ≡ x → all inRun (take (runLength s) s) ≡ true → all inRun (take (cond x (suc (runLength s)) 0) (b ∷ s)) ≡ true
-    by true e f = rw e f
-    by false e f = refl
-
 run-stop : (l : List ℕ) → startsRun (drop (runLength l) l) ≡ false
-unfolding runLength
+unfolding prefix
 run-stop [] = refl
 run-stop (b ∷ s) = by (inRun b) refl (run-stop s)
   where
@@ -88,7 +80,7 @@ run-stop (b ∷ s) = by (inRun b) refl (run-stop s)
     by false e f = e
 
 run-whole : (l : List ℕ) → ((i : ℕ) → i < length l → LetterOrDigit (getD l i 0)) → runLength l ≡ length l
-unfolding runLength
+unfolding prefix
 run-whole [] f = refl
 run-whole (b ∷ s) f = rw (in-run (f 0 (omega arith))) (ap suc (run-whole s (λ i h. f (suc i) (omega arith))))
 
@@ -139,8 +131,8 @@ here l p e =
         before = [];
         behind = drop (runLength l) l;
         line = sym (take-append-drop (runLength l) l);
-        some = omega (arith, length-take-le (runLength l) l (run-within l));
-        every = λ i h. of-run (getD (take (runLength l) l) i 0) (all-at inRun (take (runLength l) l) i 0 (run-all l) h);
+        some = omega (arith, length-take-le (runLength l) l (prefix-le inRun l));
+        every = λ i h. of-run (getD (take (runLength l) l) i 0) (all-at inRun (take (runLength l) l) i 0 (prefix-all inRun l) h);
         noneBefore = λ h w. omega arith;
         noneBehind = stops (drop (runLength l) l) (run-stop l);
       };
@@ -173,9 +165,9 @@ no-tokens e = let z : _≡_ {A = ℕ} 0 1 = cc in omega arith
 
 module _ (k : ℕ) (more : (s : List ℕ) → length s ≤ k → sound s ≡ false → Bad s) where
   behind-first : (b : ℕ) (s : List ℕ) → length s ≤ k → inRun b ≡ true → (y : Bool) → numberIfDigit (take (runLength (b ∷ s)) (b ∷ s)) ≡ y → (y && sound (drop (runLength (b ∷ s)) (b ∷ s))) ≡ false → Bad (b ∷ s)
-  behind-first b s h p false g q = here (b ∷ s) (one-long b s p) g
+  behind-first b s h p false g q = here (b ∷ s) (omega (arith, prefix-on inRun b s p)) g
   behind-first b s h p true g q =
-      behind-run (b ∷ s) (more (drop (runLength (b ∷ s)) (b ∷ s)) (omega (arith, one-long b s p, length-drop (runLength (b ∷ s)) (b ∷ s))) q)
+      behind-run (b ∷ s) (more (drop (runLength (b ∷ s)) (b ∷ s)) (omega (arith, prefix-on inRun b s p, length-drop (runLength (b ∷ s)) (b ∷ s))) q)
 
   found-next : (s : List ℕ) → length s ≤ suc k → sound s ≡ false → Bad s
   found-next [] h e = absurd (no-tokens e)
@@ -183,7 +175,7 @@ module _ (k : ℕ) (more : (s : List ℕ) → length s ≤ k → sound s ≡ fal
     where
       by : (x : Bool) → inRun b ≡ x → Bad (b ∷ s)
       by false p = further (b ∷ []) s (more s (omega arith) (sym (one-other b s p) ∙ e)) (λ z h w. no-run b p w)
-      by true p = behind-first b s (omega arith) p (numberIfDigit (take (runLength (b ∷ s)) (b ∷ s))) refl (sym (starts b s p) ∙ e)
+      by true p = behind-first b s (omega arith) p (numberIfDigit (take (runLength (b ∷ s)) (b ∷ s))) refl (sym (sound-front (b ∷ s)) ∙ e)
 
 found : (k : ℕ) (s : List ℕ) → length s ≤ k → sound s ≡ false → Bad s
 found zero [] h e = absurd (no-tokens e)

@@ -1,7 +1,8 @@
 -- Places of a line, as the reader carries them from step to step. The laws lead from them to the definitions of Token and Line.
-use mathlib.Core.Bool.{Bool, cond, _&&_, _||_}
+use mathlib.Core.Bool.{Bool, cond, not, _&&_, _||_}
 use mathlib.Core.List.{List, [], _∷_}
 use Prim.Native.Nat.{ℕ, suc, _+_, _-_}
+use lib.Bits.{bitAnd}
 use lib.Dec.{eqb, leb}
 use lib.ListN.{drop}
 use Rattle.text.specs.declared.Closed.{Closed}
@@ -13,10 +14,22 @@ use Rattle.text.specs.declared.Next.{Next}
 use Rattle.text.specs.declared.Next.the-variants.{Open, Close, Run, End}
 use Rattle.text.specs.Token.{space, opening, closing, isDigit, inRun, valueFrom, greatestNumber}
 
+-- the class of a byte: 1 a letter or digit, 2 a bracket, 4 a space, 8 any other
+abbrev pub classOf : ℕ → ℕ
+classOf b = cond (inRun b) 1 (cond (eqb b opening || eqb b closing) 2 (cond (eqb b space) 4 8))
+
+-- a byte is of one of the classes asked for, which are added up
+unfoldable pub ofClass : (asked : ℕ) → ℕ → Bool
+ofClass asked b = not (eqb (bitAnd (classOf b) asked) 0)
+
+-- how many bytes in front pass the test
+unfoldable pub prefix : (ℕ → Bool) → List ℕ → ℕ
+prefix f [] = 0
+prefix f (b ∷ s) = cond (f b) (suc (prefix f s)) 0
+
 -- how many spaces stand in front
-unfoldable pub spaces : List ℕ → ℕ
-spaces [] = 0
-spaces (b ∷ s) = cond (eqb b space) (suc (spaces s)) 0
+abbrev pub spaces : List ℕ → ℕ
+spaces s = prefix (λ b. eqb b space) s
 
 -- the place behind the bracket that closes a form, in what is left of a line from the place p on: `deep` forms are open inside
 -- it, and forms may be nested at most `left` deeper
@@ -28,9 +41,12 @@ closeAt (b ∷ s) p left deep =
     (closeAt s (p + 1) left deep))
 
 -- how many bytes the run in front has
-unfoldable pub runLength : List ℕ → ℕ
-runLength [] = 0
-runLength (b ∷ s) = cond (inRun b) (suc (runLength s)) 0
+abbrev pub runLength : List ℕ → ℕ
+runLength s = prefix inRun s
+
+-- how many bytes in front are of no run
+abbrev pub otherLength : List ℕ → ℕ
+otherLength s = prefix (λ b. not (inRun b)) s
 
 -- the number that digits say behind the value v, a zero in front or not
 unfoldable pub digitsFrom : ℕ → List ℕ → Number
@@ -41,9 +57,8 @@ abbrev pub startsToken : ℕ → Bool
 startsToken b = inRun b || eqb b opening || eqb b closing
 
 -- how many bytes in front begin no token: spaces, and what no line may have
-unfoldable pub gap : List ℕ → ℕ
-gap [] = 0
-gap (b ∷ s) = cond (startsToken b) 0 (suc (gap s))
+abbrev pub gap : List ℕ → ℕ
+gap s = prefix (λ b. not (startsToken b)) s
 
 -- the token in front of what is left of a line from the place p on
 unfoldable pub tokenAt : List ℕ → (p : ℕ) → Next

@@ -3,10 +3,10 @@ ghost use mathlib.Core.Path.{_≡_};
 ghost use Prim.Native.Nat.{_+_, _-_, _≤_};
 ghost use lib.ListN.{length, take, drop};
 ghost use Rattle.whole.specs.Lists.{all, within};
-ghost use Rattle.text.specs.Token.{isDigit, inRun, numberOf, tokens};
+ghost use Rattle.text.specs.Token.{isDigit, numberOf, tokens};
 ghost use Rattle.text.specs.Token.{same as Token·same};
 ghost use Rattle.text.specs.Line.{allowed, tested, deepest, oneForm, numberIfDigit, soundToken, readingOf, readingCode};
-ghost use Rattle.text.specs.Places.{spaces, closeAt, runLength, digitsFrom, startsToken, gap, nextOf};
+ghost use Rattle.text.specs.Places.{classOf, ofClass, prefix, closeAt, digitsFrom, nextOf};
 
 // How long a line may be, in bytes, how much deeper than its outermost brackets forms may be nested, and the greatest number.
 const LONGEST: usize = 2000;
@@ -14,6 +14,15 @@ const LONGEST: usize = 2000;
 const DEEPER: usize = 3;
 
 const GREATEST_NUMBER: u64 = 999999999;
+
+// The classes of bytes, each a bit, so that several may be asked for: of a run, a bracket, a space, any other.
+const RUN: u8 = 1;
+
+const BRACKET: u8 = 2;
+
+const SPACE: u8 = 4;
+
+const OTHER: u8 = 8;
 
 // What the tests of a whole line find, in their order.
 pub enum Reading {
@@ -63,50 +72,45 @@ fn is_digit(b: u8) -> bool
     is_within(b'0', b'9', b)
 }
 
-// Whether a byte is a letter or a digit.
-fn in_run(b: u8) -> bool
-    ensures { λ r. ⌜ r ≡ inRun b ⌝ }
+// The class of a byte, by which a line is gone through.
+fn class_of(b: u8) -> u8
+    ensures { λ r. ⌜ r ≡ classOf b ⌝ }
 {
-    choice::either(is_within(b'a', b'z', b), is_digit(b))
-}
-
-// Whether a byte may stand in a line.
-fn is_allowed(b: u8) -> bool
-    ensures { λ r. ⌜ r ≡ allowed b ⌝ }
-{
-    choice::either(
-        choice::either(choice::either(in_run(b), b == b' '), b == b'('),
-        b == b')',
-    )
-}
-
-// 11: whether every byte may.
-fn all_allowed(s: &[u8]) -> Test
-    ensures { λ r. ⌜ r ≡ tested (all allowed (now (s .entry))) ⌝ }
-{
-    let mut i = 0;
-    while i < s.len() {
-        if !is_allowed(s[i]) {
-            return Test::Failed;
-        }
-        i += 1;
+    if choice::either(is_within(b'a', b'z', b), is_digit(b)) {
+        return RUN;
     }
-    Test::Passed
+    if choice::either(b == b'(', b == b')') {
+        return BRACKET;
+    }
+    if b == b' ' {
+        return SPACE;
+    }
+    OTHER
 }
 
-// The place behind the spaces that stand at `at`.
-fn skip(s: &[u8], at: usize) -> usize
+// The place behind the bytes of the classes asked for that stand at `at`.
+fn scan(s: &[u8], at: usize, asked: u8) -> usize
     requires { ⌜ at ≤ length (now s) ⌝ }
-    ensures { λ r. ⌜ (r ≡ at + spaces (drop at (now (s .entry)))) × (r ≤ length (now (s .entry))) ⌝ }
+    ensures { λ r. ⌜ (r ≡ at + prefix (ofClass asked) (drop at (now (s .entry)))) × (r ≤ length (now (s .entry))) ⌝ }
 {
     let mut i = at;
     while i < s.len() {
-        if s[i] != b' ' {
+        if class_of(s[i]) & asked == 0 {
             return i;
         }
         i += 1;
     }
     i
+}
+
+// 11: whether every byte may stand in a line.
+fn all_allowed(s: &[u8]) -> Test
+    ensures { λ r. ⌜ r ≡ tested (all allowed (now (s .entry))) ⌝ }
+{
+    if scan(s, 0, RUN | BRACKET | SPACE) < s.len() {
+        return Test::Failed;
+    }
+    Test::Passed
 }
 
 // The place behind the form whose opening bracket stands just before `at`, with forms inside it nested at most `left` deeper.
@@ -139,7 +143,7 @@ fn close_at(s: &[u8], at: usize, left: usize) -> Closed
 fn one_form(s: &[u8]) -> Test
     ensures { λ r. ⌜ r ≡ tested (oneForm deepest (now (s .entry))) ⌝ }
 {
-    let at = skip(s, 0);
+    let at = scan(s, 0, SPACE);
     if s.len() <= at {
         return Test::Failed;
     }
@@ -149,7 +153,7 @@ fn one_form(s: &[u8]) -> Test
     let Closed::At(j) = close_at(s, at + 1, DEEPER) else {
         return Test::Failed;
     };
-    if skip(s, j) != s.len() {
+    if scan(s, j, SPACE) != s.len() {
         return Test::Failed;
     }
     Test::Passed
@@ -208,21 +212,6 @@ fn is_sound(run: &[u8]) -> bool
     true
 }
 
-// The place behind the run that starts at `at`.
-fn run_end(s: &[u8], at: usize) -> usize
-    requires { ⌜ at ≤ length (now s) ⌝ }
-    ensures { λ r. ⌜ (r ≡ at + runLength (drop at (now (s .entry)))) × (r ≤ length (now (s .entry))) ⌝ }
-{
-    let mut i = at;
-    while i < s.len() {
-        if !in_run(s[i]) {
-            return i;
-        }
-        i += 1;
-    }
-    i
-}
-
 // The run from a place to a place: the very bytes of the line.
 pub fn run_of<'a>(s: &'a [u8], from: usize, to: usize) -> &'a [u8]
     requires { ⌜ (from ≤ to) × (to ≤ length (now s)) ⌝ }
@@ -237,15 +226,11 @@ fn all_sound(s: &[u8]) -> Test
 {
     let mut i = 0;
     while i < s.len() {
-        if in_run(s[i]) {
-            let e = run_end(s, i);
-            if !is_sound(run_of(s, i, e)) {
-                return Test::Failed;
-            }
-            i = e;
-        } else {
-            i += 1;
+        let e = scan(s, i, RUN);
+        if !is_sound(run_of(s, i, e)) {
+            return Test::Failed;
         }
+        i = scan(s, e, BRACKET | SPACE | OTHER);
     }
     Test::Passed
 }
@@ -299,33 +284,12 @@ pub fn same(a: &[u8], b: &[u8]) -> bool
     b.len() <= i
 }
 
-fn starts_token(b: u8) -> bool
-    ensures { λ r. ⌜ r ≡ startsToken b ⌝ }
-{
-    choice::either(choice::either(in_run(b), b == b'('), b == b')')
-}
-
-// The place of the next token, or the end of the line.
-fn token_at(s: &[u8], at: usize) -> usize
-    requires { ⌜ at ≤ length (now s) ⌝ }
-    ensures { λ r. ⌜ (r ≡ at + gap (drop at (now (s .entry)))) × (r ≤ length (now (s .entry))) ⌝ }
-{
-    let mut i = at;
-    while i < s.len() {
-        if starts_token(s[i]) {
-            return i;
-        }
-        i += 1;
-    }
-    i
-}
-
 // The next token from `at` on.
 pub fn next_at(s: &[u8], at: usize) -> Next
     requires { ⌜ at ≤ length (now s) ⌝ }
     ensures { λ r. ⌜ r ≡ nextOf (now (s .entry)) at ⌝ }
 {
-    let p = token_at(s, at);
+    let p = scan(s, at, SPACE | OTHER);
     if s.len() <= p {
         return Next::End;
     }
@@ -336,6 +300,6 @@ pub fn next_at(s: &[u8], at: usize) -> Next
     if b == b')' {
         return Next::Close(p + 1);
     }
-    let q = run_end(s, p);
+    let q = scan(s, p, RUN);
     Next::Run(p, q)
 }

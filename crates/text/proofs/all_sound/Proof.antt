@@ -6,7 +6,8 @@ use Prim.Native.Nat.{_≤_, _-_}
 use lib.ListN.{length, drop}
 use borrow.Author.Tests.{not-true, not-false}
 use Rattle.text.specs.Line.{tested}
-use Rattle.text.proofs.Runs.{sound, sound-end, sound-other, passes}
+use Rattle.text.proofs.Scans.{runs, others}
+use Rattle.text.proofs.Runs.{sound, sound-end, run-bad, run-good, run-next}
 use Rattle.text.proofs.all_sound.Statement.{statement}
 use Rattle.text.proofs.all_sound.Tie as tie
 
@@ -19,14 +20,8 @@ abbrev μ-loop : tie.MeasureT-loop
 loop-holds : tie.Need-loop-holds Inv-loop μ-loop
 loop-holds c = search needs
 
-shared-slice-read-in-run : tie.Need-shared-slice-read-in-run Inv-loop μ-loop
-shared-slice-read-in-run c = search needs
-
-in-run-requires : tie.Need-in-run-requires Inv-loop μ-loop
-in-run-requires c κs = search needs
-
-run-end-requires : tie.Need-run-end-requires Inv-loop μ-loop
-run-end-requires c κs = search needs
+scan-requires : tie.Need-scan-requires Inv-loop μ-loop
+scan-requires c κs = search needs
 
 run-of-requires : tie.Need-run-of-requires Inv-loop μ-loop
 run-of-requires c κs = search needs
@@ -36,40 +31,27 @@ is-sound-requires c κs = search needs
 
 returns : tie.Need-returns Inv-loop μ-loop
 returns c =
-    let h = c .before .before .before .before .before .before .before .before in
-    let s = h .before .before .args .s .now in
-    let i = h .loop .i in
-    let w = passes s i (c .before .before .before .run-end .result) (c .before .before .run-of .result .now) (search needs) (sym (c .before .before .before .before .before .in-run .ensures) ∙ c .before .before .before .before .if1 .taken) (c .before .before .before .run-end .ensures .0) (c .before .before .run-of .ensures) in
-    ap tested (sym (w .bad (sym (c .before .is-sound .ensures) ∙ not-true _ (c .if2 .taken))) ∙ h .loop .inv .1)
+    let k = c .before .before .before in
+    let h = k .before .before in
+    let e = run-bad (h .before .before .args .s .now) (h .loop .i) _ _ (rw runs at (k .scan .ensures .0)) (c .before .before .run-of .ensures) in
+    ap tested (sym (e (sym (c .before .is-sound .ensures) ∙ not-true _ (c .if1 .taken))) ∙ h .loop .inv .1)
+
+scan-requires-2 : tie.Need-scan-requires-2 Inv-loop μ-loop
+scan-requires-2 c κs = search needs
 
 loop-less : tie.Need-loop-less Inv-loop μ-loop
 loop-less c =
-    let h = c .before .before .before .before .before .before .before .before in
-    let s = h .before .before .args .s .now in
-    let i = h .loop .i in
-    let w = passes s i (c .before .before .before .run-end .result) (c .before .before .run-of .result .now) (search needs) (sym (c .before .before .before .before .before .in-run .ensures) ∙ c .before .before .before .before .if1 .taken) (c .before .before .before .run-end .ensures .0) (c .before .before .run-of .ensures) in
-    search needs
+    let k = c .before .before .before .before in
+    let h = k .before .before in
+    let e = run-next (h .before .before .args .s .now) (h .loop .i) _ _ (rw runs at (k .scan .ensures .0)) (c .before .before .before .run-of .ensures) _ (rw others at (c .scan2 .ensures .0)) (search needs) in
+    omega arith
 
 loop-again : tie.Need-loop-again Inv-loop μ-loop
 loop-again c =
-    let h = c .before .before .before .before .before .before .before .before in
-    let s = h .before .before .args .s .now in
-    let i = h .loop .i in
-    let w = passes s i (c .before .before .before .run-end .result) (c .before .before .run-of .result .now) (search needs) (sym (c .before .before .before .before .before .in-run .ensures) ∙ c .before .before .before .before .if1 .taken) (c .before .before .before .run-end .ensures .0) (c .before .before .run-of .ensures) in
-    (omega arith, sym (w .good (sym (c .before .is-sound .ensures) ∙ not-false _ (c .if2 .left))) ∙ h .loop .inv .1)
-
-add-i : tie.Need-add-i Inv-loop μ-loop
-add-i c = search needs
-
-loop-less-2 : tie.Need-loop-less-2 Inv-loop μ-loop
-loop-less-2 c = search needs
-
-loop-again-2 : tie.Need-loop-again-2 Inv-loop μ-loop
-loop-again-2 c =
-    let h = c .before .before .before .before in
-    let s = h .before .before .args .s .now in
-    let i = h .loop .i in
-    (omega arith, sym (sound-other s i (search needs) (sym (c .before .in-run .ensures) ∙ c .if1 .left)) ∙ h .loop .inv .1)
+    let k = c .before .before .before .before in
+    let h = k .before .before in
+    let e = run-good (h .before .before .args .s .now) (h .loop .i) _ _ (rw runs at (k .scan .ensures .0)) (c .before .before .before .run-of .ensures) _ (rw others at (c .scan2 .ensures .0)) in
+    (search needs, sym (e (sym (c .before .before .is-sound .ensures) ∙ not-false _ (c .before .if1 .left))) ∙ h .loop .inv .1)
 
 returns-2 : tie.Need-returns-2 Inv-loop μ-loop
 returns-2 c =
@@ -84,15 +66,11 @@ all-sound-spec =
     Inv-loop
     μ-loop
     loop-holds
-    shared-slice-read-in-run
-    in-run-requires
-    run-end-requires
+    scan-requires
     run-of-requires
     is-sound-requires
     returns
+    scan-requires-2
     loop-less
     loop-again
-    add-i
-    loop-less-2
-    loop-again-2
     returns-2)

@@ -2,19 +2,20 @@
 use mathlib.Core.Path.{sym, ap, _∙_}
 use Rattle.text.specs.declared.Next.the-variants.{Run}
 use Rattle.text.proofs.Runs.{next-end, next-open, next-close, next-run}
+use Rattle.text.proofs.Scans.{runs, gaps}
 use native.Mathlib.Omega.{arith}
 use borrow.Author.Needs.{needs}
 use Rattle.text.proofs.next_at.Statement.{statement}
 use Rattle.text.proofs.next_at.Tie as tie
 
-token-at-requires : tie.Need-token-at-requires
-token-at-requires c κs = search needs
+scan-requires : tie.Need-scan-requires
+scan-requires c κs = search needs
 
 returns : tie.Need-returns
 returns c =
     let s = c .before .before .before .args .s .now in
-    let p = c .before .token-at .result in
-    let e = c .before .token-at .ensures .0 in
+    let p = c .before .scan .result in
+    let e = rw gaps at (c .before .scan .ensures .0) in
     sym (next-end s _ p e (omega arith))
 
 shared-slice-read-b : tie.Need-shared-slice-read-b
@@ -26,8 +27,8 @@ add-t10 c = search needs
 returns-2 : tie.Need-returns-2
 returns-2 c =
     let s = c .before .before .before .before .before .args .s .now in
-    let p = c .before .before .before .token-at .result in
-    let e = c .before .before .before .token-at .ensures .0 in
+    let p = c .before .before .before .scan .result in
+    let e = rw gaps at (c .before .before .before .scan .ensures .0) in
     sym (next-open s _ p e (omega arith) (c .if2 .taken))
 
 add-t11 : tie.Need-add-t11
@@ -36,30 +37,30 @@ add-t11 c = search needs
 returns-3 : tie.Need-returns-3
 returns-3 c =
     let s = c .before .before .before .before .before .before .args .s .now in
-    let p = c .before .before .before .before .token-at .result in
-    let e = c .before .before .before .before .token-at .ensures .0 in
+    let p = c .before .before .before .before .scan .result in
+    let e = rw gaps at (c .before .before .before .before .scan .ensures .0) in
     sym (next-close s _ p e (omega arith) (c .if3 .taken))
 
-run-end-requires : tie.Need-run-end-requires
-run-end-requires c κs = search needs
+scan-requires-2 : tie.Need-scan-requires-2
+scan-requires-2 c κs = search needs
 
 returns-4 : tie.Need-returns-4
 returns-4 c =
     let s = c .before .before .before .before .before .before .before .args .s .now in
-    let p = c .before .before .before .before .before .token-at .result in
-    let e = c .before .before .before .before .before .token-at .ensures .0 in
-    ap (Run p) (c .run-end .ensures .0) ∙ sym (next-run s _ p e (omega arith) (c .before .before .if2 .left) (c .before .if3 .left))
+    let p = c .before .before .before .before .before .scan .result in
+    let e = rw gaps at (c .before .before .before .before .before .scan .ensures .0) in
+    ap (Run p) (rw runs at (c .scan2 .ensures .0)) ∙ sym (next-run s _ p e (omega arith) (c .before .before .if2 .left) (c .before .if3 .left))
 
 pub next-at-spec : {M : Type 1} → statement M
 next-at-spec =
     tie.close
     (tie.spec
-    token-at-requires
+    scan-requires
     returns
     shared-slice-read-b
     add-t10
     returns-2
     add-t11
     returns-3
-    run-end-requires
+    scan-requires-2
     returns-4)
