@@ -1,20 +1,19 @@
 -- The codes 10 to 13 are given where the paper's words say so.
-use mathlib.Core.Path.{_≡_, refl, sym, _∙_, ap}
+use mathlib.Core.Path.{_≡_, refl, sym, _∙_}
 use mathlib.Core.Bool.{Bool, true, false, cond, not, _&&_, _||_}
 use mathlib.Core.List.{List, [], _∷_}
-use mathlib.Core.Logic.{_↔_}
-use Prim.Native.Nat.{ℕ, suc, _≤_, _<_}
+use Prim.Native.Nat.{ℕ, suc}
 use native.Mathlib.Omega.{arith}
 use lib.Dec.{eqb, ltb}
 use lib.ListN.{length, getD}
-use borrow.Author.Tests.{eqb-true, eqb-false, eq-eqb, ne-eqb, ltb-true, ltb-false}
+use borrow.Author.Tests.{eqb-true, ltb-true, ltb-false}
 use Rattle.whole.specs.Lists.{within, all}
-use Rattle.whole.proofs.Lists.{and-true, all-at}
+use Rattle.whole.proofs.Lists.{all-at}
 use Rattle.text.specs.declared.Reading.{Reading}
 use Rattle.text.specs.declared.Reading.the-variants.{Sound, TooLong, BadByte, NotOneForm, BadNumber}
 use Rattle.text.specs.Token.{inRun}
 use Rattle.text.specs.Line.{allowed, deepest, oneForm, readingOf, readingCode}
-use Rattle.text.specs.Codes.{LetterOrDigit, Allowed, opening, closing, space, ofRun, AllAllowed, OtherByte, OneForm, NoNumber, LineCode}
+use Rattle.text.specs.Codes.{Allowed, opening, closing, space, ofRun, AllAllowed, OtherByte, OneForm, NoNumber, LineCode}
 use Rattle.text.proofs.Runs.{sound}
 use Rattle.text.proofs.Forms.{form-passes, form-found}
 use Rattle.text.proofs.Words.{in-run, of-run, bad-found, no-number-fails}

@@ -1,14 +1,13 @@
 -- Code 12: a walk along a line ends behind its form exactly where the line is one form by the grammar.
 use mathlib.Core.Path.{_≡_, refl, sym, _∙_, ap}
 use mathlib.Core.Bool.{Bool, true, false, cond}
-use mathlib.Core.List.{List, [], _∷_, _++_, append-assoc, append-nil}
-use mathlib.Core.Logic.{_↔_}
+use mathlib.Core.List.{List, [], _∷_, _++_, append-assoc}
 use Prim.Native.Nat.{ℕ, zero, suc, _+_, _-_, _≤_, _<_}
 use native.Mathlib.Omega.{arith}
 use lib.Dec.{eqb, ltb}
 use lib.ListN.{replicate}
 use borrow.Author.Tests.{ne-eqb, eqb-true, eqb-false, lt-ltb, le-ltb}
-use Rattle.text.specs.Line.{Stand, before, inside, behind, wrong, outOf, walked, isBehind, oneForm}
+use Rattle.text.specs.Line.{before, inside, behind, wrong, outOf, walked, isBehind, oneForm}
 use Rattle.text.specs.Codes.{Inner, none, byte, form as inner, Form, form, OneForm}
 use Rattle.text.proofs.Walks.{walked-wrong}
 

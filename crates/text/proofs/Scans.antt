@@ -13,7 +13,7 @@ use Rattle.whole.specs.Lists.{all, within}
 use Rattle.whole.proofs.Lists.{drop-next, drop-end}
 use Rattle.text.specs.Token.{space, opening, closing, inRun}
 use Rattle.text.specs.Line.{allowed}
-use Rattle.text.specs.Places.{classOf, ofClass, prefix, spaces, runLength, startsToken, gap}
+use Rattle.text.specs.Places.{classOf, ofClass, prefix, startsToken}
 
 module _ (f : ℕ → Bool) where
   -- ---- a scan, place by place
@@ -112,44 +112,48 @@ pub class-out : (asked b : ℕ) {k : ℕ} → k ≡ classOf b → bitAnd k asked
 unfolding ofClass
 class-out asked b e p = rw (← e, p)
 
-record Asked (x y z w : Bool) : Type 0 where
-  run : not (eqb (bitAnd (cond x 1 (cond (y || z) 2 (cond w 4 8))) 1) 0) ≡ x
-  other : not (eqb (bitAnd (cond x 1 (cond (y || z) 2 (cond w 4 8))) 14) 0) ≡ not x
-  may : not (eqb (bitAnd (cond x 1 (cond (y || z) 2 (cond w 4 8))) 7) 0) ≡ (x || w || y || z)
-  noToken : not (eqb (bitAnd (cond x 1 (cond (y || z) 2 (cond w 4 8))) 12) 0) ≡ not (x || y || z)
-  noSpace : w ≡ false → not (eqb (bitAnd (cond x 1 (cond (y || z) 2 (cond w 4 8))) 4) 0) ≡ false
+-- a byte's class, by whether it is of a run, opens, closes or is a space, and whether it is among those asked for
+abbrev among : (asked : ℕ) (ofRun opens closes isSpace : Bool) → Bool
+among asked x y z w = not (eqb (bitAnd (cond x 1 (cond (y || z) 2 (cond w 4 8))) asked) 0)
 
-asked : (x y z w : Bool) → Asked x y z w
-asked true y z w = record { run = refl; other = refl; may = refl; noToken = refl; noSpace = λ e. refl }
-asked false true z true = record { run = refl; other = refl; may = refl; noToken = refl; noSpace = λ e. refl }
-asked false true z false = record { run = refl; other = refl; may = refl; noToken = refl; noSpace = λ e. refl }
-asked false false true true = record { run = refl; other = refl; may = refl; noToken = refl; noSpace = λ e. refl }
-asked false false true false = record { run = refl; other = refl; may = refl; noToken = refl; noSpace = λ e. refl }
-asked false false false true = record { run = refl; other = refl; may = refl; noToken = refl; noSpace = λ e. e ∙ sym e ∙ e }
-asked false false false false = record { run = refl; other = refl; may = refl; noToken = refl; noSpace = λ e. refl }
+record Among (x y z w : Bool) : Type 0 where
+  run : among 1 x y z w ≡ x
+  other : among 14 x y z w ≡ not x
+  allow : among 7 x y z w ≡ (x || w || y || z)
+  gap : among 12 x y z w ≡ not (x || y || z)
+  noSpace : w ≡ false → among 4 x y z w ≡ false
 
-of : (b : ℕ) → Asked (inRun b) (eqb b opening) (eqb b closing) (eqb b space)
-of b = asked (inRun b) (eqb b opening) (eqb b closing) (eqb b space)
+by-tests : (x y z w : Bool) → Among x y z w
+by-tests true y z w = record { run = refl; other = refl; allow = refl; gap = refl; noSpace = λ e. refl }
+by-tests false true z true = record { run = refl; other = refl; allow = refl; gap = refl; noSpace = λ e. refl }
+by-tests false true z false = record { run = refl; other = refl; allow = refl; gap = refl; noSpace = λ e. refl }
+by-tests false false true true = record { run = refl; other = refl; allow = refl; gap = refl; noSpace = λ e. refl }
+by-tests false false true false = record { run = refl; other = refl; allow = refl; gap = refl; noSpace = λ e. refl }
+by-tests false false false true = record { run = refl; other = refl; allow = refl; gap = refl; noSpace = λ e. e }
+by-tests false false false false = record { run = refl; other = refl; allow = refl; gap = refl; noSpace = λ e. refl }
 
-pub runs : ofClass 1 ≡ inRun
+of : (b : ℕ) → Among (inRun b) (eqb b opening) (eqb b closing) (eqb b space)
+of b = by-tests (inRun b) (eqb b opening) (eqb b closing) (eqb b space)
+
+pub asked-runs : ofClass 1 ≡ inRun
 unfolding ofClass
-runs = fun-ext (λ b. of b .run)
+asked-runs = fun-ext (λ b. of b .run)
 
-pub others : ofClass 14 ≡ (λ b. not (inRun b))
+pub asked-others : ofClass 14 ≡ (λ b. not (inRun b))
 unfolding ofClass
-others = fun-ext (λ b. of b .other)
+asked-others = fun-ext (λ b. of b .other)
 
-pub alloweds : ofClass 7 ≡ allowed
+pub asked-allowed : ofClass 7 ≡ allowed
 unfolding ofClass
-alloweds = fun-ext (λ b. of b .may)
+asked-allowed = fun-ext (λ b. of b .allow)
 
-pub gaps : ofClass 12 ≡ (λ b. not (startsToken b))
+pub asked-gaps : ofClass 12 ≡ (λ b. not (startsToken b))
 unfolding ofClass
-gaps = fun-ext (λ b. of b .noToken)
+asked-gaps = fun-ext (λ b. of b .gap)
 
-pub blanks : ofClass 4 ≡ (λ b. eqb b space)
+pub asked-spaces : ofClass 4 ≡ (λ b. eqb b space)
 unfolding ofClass within
-blanks = fun-ext (λ b. by b (eqb b space) refl)
+asked-spaces = fun-ext (λ b. by b (eqb b space) refl)
   where
     by : (b : ℕ) (x : Bool) → eqb b space ≡ x → ofClass 4 b ≡ x
     by b true e = rw (eqb-true b space e)

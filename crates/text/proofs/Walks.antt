@@ -1,12 +1,12 @@
 -- Laws of a walk along a line: byte by byte, over spaces, and over a form.
-use mathlib.Core.Path.{_≡_, refl, sym, _∙_, ap}
+use mathlib.Core.Path.{_≡_, refl, _∙_, ap}
 use mathlib.Core.Bool.{Bool, true, false, cond}
 use mathlib.Core.List.{List, [], _∷_}
 use Prim.Native.Nat.{ℕ, zero, suc, _+_, _-_, _≤_, _<_}
 use native.Mathlib.Omega.{arith}
 use lib.Dec.{eqb, ltb}
-use lib.ListN.{length, getD, drop, length-drop}
-use borrow.Author.Tests.{ne-eqb, eq-eqb, eqb-true, eqb-false, lt-ltb, le-ltb}
+use lib.ListN.{length, getD, drop}
+use borrow.Author.Tests.{ne-eqb, eqb-true, lt-ltb, le-ltb}
 use lib.Seq.{drop-drop}
 use Rattle.text.specs.Token.{space}
 use Rattle.text.specs.Line.{before, inside, behind, wrong, outOf, walked, isBehind, oneForm}

@@ -7,7 +7,7 @@ use lib.ListN.{length, drop}
 use Rattle.text.specs.Places.{closeAt}
 use Rattle.text.proofs.Closing.{resume, close-out, close-shut, close-full, close-other, close-inner, placed}
 use Prim.Native.Nat.{ℕ, _<_}
-use borrow.Fn.Kinds.{In}
+use borrow.Fn.Kinds.{In, Out}
 use borrow.Fn.PlainCycle.{Measures, is, falls, and}
 use Rattle.text.proofs.close_at.Reads as close-at
 use Rattle.text.proofs.close_at.Kinds as close-at-kinds
@@ -31,40 +31,20 @@ close-at-Inv-loop s at left i₀ i = (at ≤ i) × (i ≤ length s) × (closeAt 
 abbrev close-at-μ-loop : close-at-lts.MeasureT-loop
 close-at-μ-loop s at left i₀ i = length s - i
 
-close-at-loop-holds :
-    (t : ℕ) →
-    close-at-lts.Need-loop-holds
-    (close-at-below t, close-at.Post)
-    (close-at-at t)
-    close-at.Post
-    close-at-Inv-loop
-    close-at-μ-loop
+-- a need of the function, over what all of them are stated over
+abbrev Need : (close-at-lts.Claims → In 1 close-at-kinds.ps → Out 1 close-at-kinds.ps close-at-kinds.r → close-at-lts.InvT-loop → close-at-lts.MeasureT-loop → Type 0) → Type 0
+Need N = (t : ℕ) → N (close-at-below t, close-at.Post) (close-at-at t) close-at.Post close-at-Inv-loop close-at-μ-loop
+
+close-at-loop-holds : Need close-at-lts.Need-loop-holds
 close-at-loop-holds t c = search needs
 
-close-at-shared-slice-read-b : (t : ℕ) → close-at-lts.Need-shared-slice-read-b (
-  close-at-below t,
-  close-at.Post,
-) (close-at-at t) close-at.Post close-at-Inv-loop close-at-μ-loop
+close-at-shared-slice-read-b : Need close-at-lts.Need-shared-slice-read-b
 close-at-shared-slice-read-b t c = search needs
 
-close-at-add-t11 :
-    (t : ℕ) →
-    close-at-lts.Need-add-t11
-    (close-at-below t, close-at.Post)
-    (close-at-at t)
-    close-at.Post
-    close-at-Inv-loop
-    close-at-μ-loop
+close-at-add-t11 : Need close-at-lts.Need-add-t11
 close-at-add-t11 t c = search needs
 
-close-at-returns :
-    (t : ℕ) →
-    close-at-lts.Need-returns
-    (close-at-below t, close-at.Post)
-    (close-at-at t)
-    close-at.Post
-    close-at-Inv-loop
-    close-at-μ-loop
+close-at-returns : Need close-at-lts.Need-returns
 close-at-returns t c =
     let h = c .before .before .before in
     let s = h .before .before .args .s .now in
@@ -72,14 +52,7 @@ close-at-returns t c =
     let left = h .before .before .args .left in
     sym (close-shut s i left (search needs) (c .if1 .taken)) ∙ h .loop .inv .2
 
-close-at-returns-2 :
-    (t : ℕ) →
-    close-at-lts.Need-returns-2
-    (close-at-below t, close-at.Post)
-    (close-at-at t)
-    close-at.Post
-    close-at-Inv-loop
-    close-at-μ-loop
+close-at-returns-2 : Need close-at-lts.Need-returns-2
 close-at-returns-2 t c =
     let h = c .before .before .before .before .before in
     let s = h .before .before .args .s .now in
@@ -87,60 +60,22 @@ close-at-returns-2 t c =
     let left = h .before .before .args .left in
     sym (close-full s i left (search needs) (c .before .if2 .taken) (c .if3 .taken)) ∙ h .loop .inv .2
 
-close-at-add-close-at :
-    (t : ℕ) →
-    close-at-lts.Need-add-close-at
-    (close-at-below t, close-at.Post)
-    (close-at-at t)
-    close-at.Post
-    close-at-Inv-loop
-    close-at-μ-loop
+close-at-add-close-at : Need close-at-lts.Need-add-close-at
 close-at-add-close-at t c = search needs
 
-close-at-sub-close-at :
-    (t : ℕ) →
-    close-at-lts.Need-sub-close-at
-    (close-at-below t, close-at.Post)
-    (close-at-at t)
-    close-at.Post
-    close-at-Inv-loop
-    close-at-μ-loop
+close-at-sub-close-at : Need close-at-lts.Need-sub-close-at
 close-at-sub-close-at t c = search needs
 
-close-at-close-at-requires : (t : ℕ) → close-at-lts.Need-close-at-requires (
-  close-at-below t,
-  close-at.Post,
-) (close-at-at t) close-at.Post close-at-Inv-loop close-at-μ-loop
+close-at-close-at-requires : Need close-at-lts.Need-close-at-requires
 close-at-close-at-requires t c κs = search needs
 
-close-at-enum-known-j :
-    (t : ℕ) →
-    close-at-lts.Need-enum-known-j
-    (close-at-below t, close-at.Post)
-    (close-at-at t)
-    close-at.Post
-    close-at-Inv-loop
-    close-at-μ-loop
+close-at-enum-known-j : Need close-at-lts.Need-enum-known-j
 close-at-enum-known-j t c = search needs
 
-close-at-enum-told :
-    (t : ℕ) →
-    close-at-lts.Need-enum-told
-    (close-at-below t, close-at.Post)
-    (close-at-at t)
-    close-at.Post
-    close-at-Inv-loop
-    close-at-μ-loop
+close-at-enum-told : Need close-at-lts.Need-enum-told
 close-at-enum-told t c = search needs
 
-close-at-returns-3 :
-    (t : ℕ) →
-    close-at-lts.Need-returns-3
-    (close-at-below t, close-at.Post)
-    (close-at-at t)
-    close-at.Post
-    close-at-Inv-loop
-    close-at-μ-loop
+close-at-returns-3 : Need close-at-lts.Need-returns-3
 close-at-returns-3 t c =
     let h = c .before .before .before .before .before .before .before .before in
     let s = h .before .before .args .s .now in
@@ -150,14 +85,7 @@ close-at-returns-3 t c =
     let r = sym (c .before .before .close-at .ensures) ∙ c .enum-told .given .1 in
     sym (e ∙ ap (resume s left 0) r) ∙ h .loop .inv .2
 
-close-at-loop-less :
-    (t : ℕ) →
-    close-at-lts.Need-loop-less
-    (close-at-below t, close-at.Post)
-    (close-at-at t)
-    close-at.Post
-    close-at-Inv-loop
-    close-at-μ-loop
+close-at-loop-less : Need close-at-lts.Need-loop-less
 close-at-loop-less t c =
     let h = c .before .before .before .before .before .before .before .before .before in
     let s = h .before .before .args .s .now in
@@ -167,14 +95,7 @@ close-at-loop-less t c =
     let w = placed s i _ _ (search needs) r in
     omega arith
 
-close-at-loop-again :
-    (t : ℕ) →
-    close-at-lts.Need-loop-again
-    (close-at-below t, close-at.Post)
-    (close-at-at t)
-    close-at.Post
-    close-at-Inv-loop
-    close-at-μ-loop
+close-at-loop-again : Need close-at-lts.Need-loop-again
 close-at-loop-again t c =
     let h = c .before .before .before .before .before .before .before .before .before in
     let s = h .before .before .args .s .now in
@@ -185,34 +106,13 @@ close-at-loop-again t c =
     let w = placed s i _ _ (search needs) r in
     (omega arith, omega arith, sym (e ∙ ap (resume s left 0) r) ∙ h .loop .inv .2)
 
-close-at-add-i :
-    (t : ℕ) →
-    close-at-lts.Need-add-i
-    (close-at-below t, close-at.Post)
-    (close-at-at t)
-    close-at.Post
-    close-at-Inv-loop
-    close-at-μ-loop
+close-at-add-i : Need close-at-lts.Need-add-i
 close-at-add-i t c = search needs
 
-close-at-loop-less-2 :
-    (t : ℕ) →
-    close-at-lts.Need-loop-less-2
-    (close-at-below t, close-at.Post)
-    (close-at-at t)
-    close-at.Post
-    close-at-Inv-loop
-    close-at-μ-loop
+close-at-loop-less-2 : Need close-at-lts.Need-loop-less-2
 close-at-loop-less-2 t c = search needs
 
-close-at-loop-again-2 :
-    (t : ℕ) →
-    close-at-lts.Need-loop-again-2
-    (close-at-below t, close-at.Post)
-    (close-at-at t)
-    close-at.Post
-    close-at-Inv-loop
-    close-at-μ-loop
+close-at-loop-again-2 : Need close-at-lts.Need-loop-again-2
 close-at-loop-again-2 t c =
     let h = c .before .before .before .before in
     let s = h .before .before .args .s .now in
@@ -220,14 +120,7 @@ close-at-loop-again-2 t c =
     let left = h .before .before .args .left in
     (omega arith, omega arith, sym (close-other s i left (search needs) (c .before .if1 .left) (c .if2 .left)) ∙ h .loop .inv .2)
 
-close-at-returns-4 :
-    (t : ℕ) →
-    close-at-lts.Need-returns-4
-    (close-at-below t, close-at.Post)
-    (close-at-at t)
-    close-at.Post
-    close-at-Inv-loop
-    close-at-μ-loop
+close-at-returns-4 : Need close-at-lts.Need-returns-4
 close-at-returns-4 t c =
     let h = c .before in
     let s = h .before .before .args .s .now in

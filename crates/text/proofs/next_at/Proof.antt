@@ -2,7 +2,7 @@
 use mathlib.Core.Path.{sym, ap, _∙_}
 use Rattle.text.specs.declared.Next.the-variants.{Run}
 use Rattle.text.proofs.Runs.{next-end, next-open, next-close, next-run}
-use Rattle.text.proofs.Scans.{runs, gaps}
+use Rattle.text.proofs.Scans.{asked-runs, asked-gaps}
 use native.Mathlib.Omega.{arith}
 use borrow.Author.Needs.{needs}
 use Rattle.text.proofs.next_at.Statement.{statement}
@@ -15,7 +15,7 @@ returns : tie.Need-returns
 returns c =
     let s = c .before .before .before .args .s .now in
     let p = c .before .scan .result in
-    let e = rw gaps at (c .before .scan .ensures .0) in
+    let e = rw asked-gaps at (c .before .scan .ensures .0) in
     sym (next-end s _ p e (omega arith))
 
 shared-slice-read-b : tie.Need-shared-slice-read-b
@@ -28,7 +28,7 @@ returns-2 : tie.Need-returns-2
 returns-2 c =
     let s = c .before .before .before .before .before .args .s .now in
     let p = c .before .before .before .scan .result in
-    let e = rw gaps at (c .before .before .before .scan .ensures .0) in
+    let e = rw asked-gaps at (c .before .before .before .scan .ensures .0) in
     sym (next-open s _ p e (omega arith) (c .if2 .taken))
 
 add-t11 : tie.Need-add-t11
@@ -38,7 +38,7 @@ returns-3 : tie.Need-returns-3
 returns-3 c =
     let s = c .before .before .before .before .before .before .args .s .now in
     let p = c .before .before .before .before .scan .result in
-    let e = rw gaps at (c .before .before .before .before .scan .ensures .0) in
+    let e = rw asked-gaps at (c .before .before .before .before .scan .ensures .0) in
     sym (next-close s _ p e (omega arith) (c .if3 .taken))
 
 scan-requires-2 : tie.Need-scan-requires-2
@@ -48,8 +48,8 @@ returns-4 : tie.Need-returns-4
 returns-4 c =
     let s = c .before .before .before .before .before .before .before .args .s .now in
     let p = c .before .before .before .before .before .scan .result in
-    let e = rw gaps at (c .before .before .before .before .before .scan .ensures .0) in
-    ap (Run p) (rw runs at (c .scan2 .ensures .0)) ∙ sym (next-run s _ p e (omega arith) (c .before .before .if2 .left) (c .before .if3 .left))
+    let e = rw asked-gaps at (c .before .before .before .before .before .scan .ensures .0) in
+    ap (Run p) (rw asked-runs at (c .scan2 .ensures .0)) ∙ sym (next-run s _ p e (omega arith) (c .before .before .if2 .left) (c .before .if3 .left))
 
 pub next-at-spec : {M : Type 1} → statement M
 next-at-spec =
