@@ -112,6 +112,10 @@ pub class-out : (asked b : ℕ) {k : ℕ} → k ≡ classOf b → bitAnd k asked
 unfolding ofClass
 class-out asked b e p = rw (← e, p)
 
+-- a scan for classes goes as far as the test that they stand for
+pub stands : {f g : ℕ → Bool} → f ≡ g → (s : List ℕ) (at : ℕ) {p : ℕ} → p ≡ at + prefix f (drop at s) → p ≡ at + prefix g (drop at s)
+stands e s at there = there ∙ ap (λ f. at + prefix f (drop at s)) e
+
 -- a byte's class, by whether it is of a run, opens, closes or is a space, and whether it is among those asked for
 abbrev among : (asked : ℕ) (ofRun opens closes isSpace : Bool) → Bool
 among asked x y z w = not (eqb (bitAnd (cond x 1 (cond (y || z) 2 (cond w 4 8))) asked) 0)

@@ -3,7 +3,7 @@ use borrow.Author.Needs.{needs}
 use mathlib.Core.Path.{sym, ap}
 use native.Mathlib.Omega.{arith}
 use Rattle.text.specs.Line.{allowed, tested}
-use Rattle.text.proofs.Scans.{asked-allowed, prefix-short, prefix-whole}
+use Rattle.text.proofs.Scans.{stands, asked-allowed, prefix-short, prefix-whole}
 use Rattle.text.proofs.all_allowed.Statement.{statement}
 use Rattle.text.proofs.all_allowed.Tie as tie
 
@@ -13,13 +13,13 @@ scan-requires c κs = search needs
 returns : tie.Need-returns
 returns c =
     let s = c .before .before .before .args .s .now in
-    let e = rw asked-allowed at (c .before .scan .ensures .0) in
+    let e = stands asked-allowed s 0 (c .before .scan .ensures .0) in
     ap tested (sym (prefix-short allowed s (omega arith)))
 
 returns-2 : tie.Need-returns-2
 returns-2 c =
     let s = c .before .before .before .args .s .now in
-    let e = rw asked-allowed at (c .before .scan .ensures .0) in
+    let e = stands asked-allowed s 0 (c .before .scan .ensures .0) in
     ap tested (sym (prefix-whole allowed s (omega arith)))
 
 pub all-allowed-spec : {M : Type 1} → statement M

@@ -6,7 +6,7 @@ use Prim.Native.Nat.{_≤_, _-_}
 use lib.ListN.{length, drop}
 use borrow.Author.Tests.{not-true, not-false}
 use Rattle.text.specs.Line.{tested}
-use Rattle.text.proofs.Scans.{asked-runs, asked-others}
+use Rattle.text.proofs.Scans.{stands, asked-runs, asked-others}
 use Rattle.text.proofs.Runs.{sound, sound-end, run-bad, run-good, run-next}
 use Rattle.text.proofs.all_sound.Statement.{statement}
 use Rattle.text.proofs.all_sound.Tie as tie
@@ -33,7 +33,9 @@ returns : tie.Need-returns Inv-loop μ-loop
 returns c =
     let k = c .before .before .before in
     let h = k .before .before in
-    let e = run-bad (h .before .before .args .s .now) (h .loop .i) _ _ (rw asked-runs at (k .scan .ensures .0)) (c .before .before .run-of .ensures) in
+    let s = h .before .before .args .s .now in
+    let i = h .loop .i in
+    let e = run-bad s i _ _ (stands asked-runs s i (k .scan .ensures .0)) (c .before .before .run-of .ensures) in
     ap tested (sym (e (sym (c .before .is-sound .ensures) ∙ not-true _ (c .if1 .taken))) ∙ h .loop .inv .1)
 
 scan-requires-2 : tie.Need-scan-requires-2 Inv-loop μ-loop
@@ -43,14 +45,20 @@ loop-less : tie.Need-loop-less Inv-loop μ-loop
 loop-less c =
     let k = c .before .before .before .before in
     let h = k .before .before in
-    let e = run-next (h .before .before .args .s .now) (h .loop .i) _ _ (rw asked-runs at (k .scan .ensures .0)) (c .before .before .before .run-of .ensures) _ (rw asked-others at (c .scan2 .ensures .0)) (search needs) in
+    let s = h .before .before .args .s .now in
+    let i = h .loop .i in
+    let over = stands asked-others s _ (c .scan2 .ensures .0) in
+    let e = run-next s i _ _ (stands asked-runs s i (k .scan .ensures .0)) (c .before .before .before .run-of .ensures) _ over (search needs) in
     omega arith
 
 loop-again : tie.Need-loop-again Inv-loop μ-loop
 loop-again c =
     let k = c .before .before .before .before in
     let h = k .before .before in
-    let e = run-good (h .before .before .args .s .now) (h .loop .i) _ _ (rw asked-runs at (k .scan .ensures .0)) (c .before .before .before .run-of .ensures) _ (rw asked-others at (c .scan2 .ensures .0)) in
+    let s = h .before .before .args .s .now in
+    let i = h .loop .i in
+    let over = stands asked-others s _ (c .scan2 .ensures .0) in
+    let e = run-good s i _ _ (stands asked-runs s i (k .scan .ensures .0)) (c .before .before .before .run-of .ensures) _ over in
     (search needs, sym (e (sym (c .before .before .is-sound .ensures) ∙ not-false _ (c .before .if1 .left))) ∙ h .loop .inv .1)
 
 returns-2 : tie.Need-returns-2 Inv-loop μ-loop

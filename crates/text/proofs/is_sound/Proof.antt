@@ -29,13 +29,17 @@ enum-told-2 c = search needs
 
 returns-3 : tie.Need-returns-3
 returns-3 c =
-    let r = c .before .before .before .before .before .before .before .before .args .run .now in
-    sym (sound-number r (c .before .before .before .before .before .before .if1 .left) (sym (c .before .before .before .before .is-digit .ensures) ∙ not-false _ (c .before .before .before .if2 .left)) ∙ ap says (sym (c .before .before .number-of .ensures) ∙ c .enum-told2 .given .1))
+    let k = c .before .before .before in
+    let r = k .before .before .before .before .before .args .run .now in
+    let e = sound-number r (k .before .before .before .if1 .left) (sym (k .before .is-digit .ensures) ∙ not-false _ (k .if2 .left)) in
+    sym (e ∙ ap says (sym (c .before .before .number-of .ensures) ∙ c .enum-told2 .given .1))
 
 returns-4 : tie.Need-returns-4
 returns-4 c =
-    let r = c .before .before .before .before .before .before .before .before .args .run .now in
-    sym (sound-number r (c .before .before .before .before .before .before .if1 .left) (sym (c .before .before .before .before .is-digit .ensures) ∙ not-false _ (c .before .before .before .if2 .left)) ∙ ap says (sym (c .before .before .number-of .ensures) ∙ c .enum-told .given .1))
+    let k = c .before .before .before in
+    let r = k .before .before .before .before .before .args .run .now in
+    let e = sound-number r (k .before .before .before .if1 .left) (sym (k .before .is-digit .ensures) ∙ not-false _ (k .if2 .left)) in
+    sym (e ∙ ap says (sym (c .before .before .number-of .ensures) ∙ c .enum-told .given .1))
 
 pub is-sound-spec : {M : Type 1} → statement M
 is-sound-spec =

@@ -2,7 +2,7 @@
 use mathlib.Core.Path.{sym, ap, _∙_}
 use Rattle.text.specs.declared.Next.the-variants.{Run}
 use Rattle.text.proofs.Runs.{next-end, next-open, next-close, next-run}
-use Rattle.text.proofs.Scans.{asked-runs, asked-gaps}
+use Rattle.text.proofs.Scans.{stands, asked-runs, asked-gaps}
 use native.Mathlib.Omega.{arith}
 use borrow.Author.Needs.{needs}
 use Rattle.text.proofs.next_at.Statement.{statement}
@@ -13,10 +13,10 @@ scan-requires c κs = search needs
 
 returns : tie.Need-returns
 returns c =
-    let s = c .before .before .before .args .s .now in
-    let p = c .before .scan .result in
-    let e = rw asked-gaps at (c .before .scan .ensures .0) in
-    sym (next-end s _ p e (omega arith))
+    let k = c .before in
+    let s = k .before .before .args .s .now in
+    let e = stands asked-gaps s _ (k .scan .ensures .0) in
+    sym (next-end s _ (k .scan .result) e (omega arith))
 
 shared-slice-read-b : tie.Need-shared-slice-read-b
 shared-slice-read-b c = search needs
@@ -26,30 +26,32 @@ add-t10 c = search needs
 
 returns-2 : tie.Need-returns-2
 returns-2 c =
-    let s = c .before .before .before .before .before .args .s .now in
-    let p = c .before .before .before .scan .result in
-    let e = rw asked-gaps at (c .before .before .before .scan .ensures .0) in
-    sym (next-open s _ p e (omega arith) (c .if2 .taken))
+    let k = c .before .before .before in
+    let s = k .before .before .args .s .now in
+    let e = stands asked-gaps s _ (k .scan .ensures .0) in
+    sym (next-open s _ (k .scan .result) e (omega arith) (c .if2 .taken))
 
 add-t11 : tie.Need-add-t11
 add-t11 c = search needs
 
 returns-3 : tie.Need-returns-3
 returns-3 c =
-    let s = c .before .before .before .before .before .before .args .s .now in
-    let p = c .before .before .before .before .scan .result in
-    let e = rw asked-gaps at (c .before .before .before .before .scan .ensures .0) in
-    sym (next-close s _ p e (omega arith) (c .if3 .taken))
+    let k = c .before .before .before .before in
+    let s = k .before .before .args .s .now in
+    let e = stands asked-gaps s _ (k .scan .ensures .0) in
+    sym (next-close s _ (k .scan .result) e (omega arith) (c .if3 .taken))
 
 scan-requires-2 : tie.Need-scan-requires-2
 scan-requires-2 c κs = search needs
 
 returns-4 : tie.Need-returns-4
 returns-4 c =
-    let s = c .before .before .before .before .before .before .before .args .s .now in
-    let p = c .before .before .before .before .before .scan .result in
-    let e = rw asked-gaps at (c .before .before .before .before .before .scan .ensures .0) in
-    ap (Run p) (rw asked-runs at (c .scan2 .ensures .0)) ∙ sym (next-run s _ p e (omega arith) (c .before .before .if2 .left) (c .before .if3 .left))
+    let k = c .before .before .before .before .before in
+    let s = k .before .before .args .s .now in
+    let p = k .scan .result in
+    let e = stands asked-gaps s _ (k .scan .ensures .0) in
+    let n = next-run s _ p e (omega arith) (c .before .before .if2 .left) (c .before .if3 .left) in
+    ap (Run p) (stands asked-runs s _ (c .scan2 .ensures .0)) ∙ sym n
 
 pub next-at-spec : {M : Type 1} → statement M
 next-at-spec =

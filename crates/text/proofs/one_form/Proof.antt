@@ -3,7 +3,7 @@ use mathlib.Core.Path.{sym, _∙_, ap}
 use native.Mathlib.Omega.{arith}
 use Rattle.text.specs.Line.{tested}
 use Rattle.text.proofs.Walks.{no-form, not-opened, form-from, afterClose, ends-there, ends-short}
-use Rattle.text.proofs.Scans.{asked-spaces}
+use Rattle.text.proofs.Scans.{stands, asked-spaces}
 use Rattle.text.proofs.Closing.{placed}
 use borrow.Author.Needs.{needs}
 use Rattle.text.proofs.one_form.Statement.{statement}
@@ -13,7 +13,9 @@ scan-requires : tie.Need-scan-requires
 scan-requires c κs = search needs
 
 returns : tie.Need-returns
-returns c = ap tested (sym (no-form (c .before .before .before .args .s .now) _ (rw asked-spaces at (c .before .scan .ensures .0)) _ (c .if1 .taken)))
+returns c =
+    let s = c .before .before .before .args .s .now in
+    ap tested (sym (no-form s _ (stands asked-spaces s 0 (c .before .scan .ensures .0)) _ (c .if1 .taken)))
 
 shared-slice-read-if2 : tie.Need-shared-slice-read-if2
 shared-slice-read-if2 c = search needs
@@ -21,7 +23,7 @@ shared-slice-read-if2 c = search needs
 returns-2 : tie.Need-returns-2
 returns-2 c =
     let s = c .before .before .before .before .before .args .s .now in
-    ap tested (sym (not-opened s _ (rw asked-spaces at (c .before .before .before .scan .ensures .0)) (search needs) _ (c .if2 .taken)))
+    ap tested (sym (not-opened s _ (stands asked-spaces s 0 (c .before .before .before .scan .ensures .0)) (search needs) _ (c .if2 .taken)))
 
 add-close-at : tie.Need-add-close-at
 add-close-at c = search needs
@@ -40,7 +42,7 @@ returns-3 c =
     let k = c .before .before .before in
     let s = k .before .before .before .before .before .args .s .now in
     let r = sym (c .before .before .close-at .ensures) ∙ c .enum-told .given .1 in
-    let f = form-from s _ (rw asked-spaces at (k .before .before .before .scan .ensures .0)) (search needs) _ (k .if2 .left) in
+    let f = form-from s _ (stands asked-spaces s 0 (k .before .before .before .scan .ensures .0)) (search needs) _ (k .if2 .left) in
     ap tested (sym (f ∙ ap (afterClose _ s) r))
 
 scan-requires-2 : tie.Need-scan-requires-2
@@ -56,8 +58,8 @@ returns-4 c =
     let k = j .before .before .before in
     let s = k .before .before .before .before .before .args .s .now in
     let r = sym (j .before .before .close-at .ensures) ∙ j .j .given .1 in
-    let f = form-from s _ (rw asked-spaces at (k .before .before .before .scan .ensures .0)) (search needs) _ (k .if2 .left) in
-    ap tested (sym (f ∙ ap (afterClose _ s) r ∙ ends-short _ s _ _ (rw asked-spaces at (c .before .scan2 .ensures .0)) (omega arith)))
+    let f = form-from s _ (stands asked-spaces s 0 (k .before .before .before .scan .ensures .0)) (search needs) _ (k .if2 .left) in
+    ap tested (sym (f ∙ ap (afterClose _ s) r ∙ ends-short _ s _ _ (stands asked-spaces s _ (c .before .scan2 .ensures .0)) (omega arith)))
 
 returns-5 : tie.Need-returns-5
 returns-5 c =
@@ -65,8 +67,8 @@ returns-5 c =
     let k = j .before .before .before in
     let s = k .before .before .before .before .before .args .s .now in
     let r = sym (j .before .before .close-at .ensures) ∙ j .j .given .1 in
-    let f = form-from s _ (rw asked-spaces at (k .before .before .before .scan .ensures .0)) (search needs) _ (k .if2 .left) in
-    ap tested (sym (f ∙ ap (afterClose _ s) r ∙ ends-there _ s _ _ (rw asked-spaces at (c .before .scan2 .ensures .0)) (omega arith)))
+    let f = form-from s _ (stands asked-spaces s 0 (k .before .before .before .scan .ensures .0)) (search needs) _ (k .if2 .left) in
+    ap tested (sym (f ∙ ap (afterClose _ s) r ∙ ends-there _ s _ _ (stands asked-spaces s _ (c .before .scan2 .ensures .0)) (omega arith)))
 
 pub one-form-spec : {M : Type 1} → statement M
 one-form-spec =

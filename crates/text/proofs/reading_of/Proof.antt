@@ -18,7 +18,9 @@ enum-told-2 : tie.Need-enum-told-2
 enum-told-2 c = search needs
 
 returns-2 : tie.Need-returns-2
-returns-2 c = sym (bad-byte (c .before .before .before .before .before .args .line .now) (c .before .before .before .if1 .left) (failed (c .before .before .all-allowed .ensures) (c .enum-told2 .given .1)))
+returns-2 c =
+    let e = c .before .before .before in
+    sym (bad-byte (e .before .before .args .line .now) (e .if1 .left) (failed (c .before .before .all-allowed .ensures) (c .enum-told2 .given .1)))
 
 one-form-requires : tie.Need-one-form-requires
 one-form-requires c κs = search needs
@@ -30,7 +32,11 @@ enum-told-4 : tie.Need-enum-told-4
 enum-told-4 c = search needs
 
 returns-3 : tie.Need-returns-3
-returns-3 c = sym (not-one-form (c .before .before .before .before .before .before .before .before .args .line .now) (c .before .before .before .before .before .before .if1 .left) (passed (c .before .before .before .before .before .all-allowed .ensures) (c .before .before .before .enum-told .given .1)) (failed (c .before .before .one-form .ensures) (c .enum-told4 .given .1)))
+returns-3 c =
+    let a = c .before .before .before in
+    let e = a .before .before .before in
+    let byte = passed (a .before .before .all-allowed .ensures) (a .enum-told .given .1) in
+    sym (not-one-form (e .before .before .args .line .now) (e .if1 .left) byte (failed (c .before .before .one-form .ensures) (c .enum-told4 .given .1)))
 
 all-sound-requires : tie.Need-all-sound-requires
 all-sound-requires c κs = search needs
@@ -42,10 +48,22 @@ enum-told-6 : tie.Need-enum-told-6
 enum-told-6 c = search needs
 
 returns-4 : tie.Need-returns-4
-returns-4 c = sym (bad-number (c .before .before .before .before .before .before .before .before .before .before .before .args .line .now) (c .before .before .before .before .before .before .before .before .before .if1 .left) (passed (c .before .before .before .before .before .before .before .before .all-allowed .ensures) (c .before .before .before .before .before .before .enum-told .given .1)) (passed (c .before .before .before .before .before .one-form .ensures) (c .before .before .before .enum-told3 .given .1)) (failed (c .before .before .all-sound .ensures) (c .enum-told6 .given .1)))
+returns-4 c =
+    let f = c .before .before .before in
+    let a = f .before .before .before in
+    let e = a .before .before .before in
+    let byte = passed (a .before .before .all-allowed .ensures) (a .enum-told .given .1) in
+    let form = passed (f .before .before .one-form .ensures) (f .enum-told3 .given .1) in
+    sym (bad-number (e .before .before .args .line .now) (e .if1 .left) byte form (failed (c .before .before .all-sound .ensures) (c .enum-told6 .given .1)))
 
 returns-5 : tie.Need-returns-5
-returns-5 c = sym (is-sound (c .before .before .before .before .before .before .before .before .before .before .before .args .line .now) (c .before .before .before .before .before .before .before .before .before .if1 .left) (passed (c .before .before .before .before .before .before .before .before .all-allowed .ensures) (c .before .before .before .before .before .before .enum-told .given .1)) (passed (c .before .before .before .before .before .one-form .ensures) (c .before .before .before .enum-told3 .given .1)) (passed (c .before .before .all-sound .ensures) (c .enum-told5 .given .1)))
+returns-5 c =
+    let f = c .before .before .before in
+    let a = f .before .before .before in
+    let e = a .before .before .before in
+    let byte = passed (a .before .before .all-allowed .ensures) (a .enum-told .given .1) in
+    let form = passed (f .before .before .one-form .ensures) (f .enum-told3 .given .1) in
+    sym (is-sound (e .before .before .args .line .now) (e .if1 .left) byte form (passed (c .before .before .all-sound .ensures) (c .enum-told5 .given .1)))
 
 pub reading-of-spec : {M : Type 1} → statement M
 reading-of-spec =
