@@ -127,17 +127,17 @@ record Among (x y z w : Bool) : Type 0 where
   gap : among 12 x y z w ≡ not (x || y || z)
   noSpace : w ≡ false → among 4 x y z w ≡ false
 
-by-tests : (x y z w : Bool) → Among x y z w
-by-tests true y z w = record { run = refl; other = refl; allow = refl; gap = refl; noSpace = λ e. refl }
-by-tests false true z true = record { run = refl; other = refl; allow = refl; gap = refl; noSpace = λ e. refl }
-by-tests false true z false = record { run = refl; other = refl; allow = refl; gap = refl; noSpace = λ e. refl }
-by-tests false false true true = record { run = refl; other = refl; allow = refl; gap = refl; noSpace = λ e. refl }
-by-tests false false true false = record { run = refl; other = refl; allow = refl; gap = refl; noSpace = λ e. refl }
-by-tests false false false true = record { run = refl; other = refl; allow = refl; gap = refl; noSpace = λ e. e }
-by-tests false false false false = record { run = refl; other = refl; allow = refl; gap = refl; noSpace = λ e. refl }
+among-by : (x y z w : Bool) → Among x y z w
+among-by true y z w = record { run = refl; other = refl; allow = refl; gap = refl; noSpace = λ e. refl }
+among-by false true z true = record { run = refl; other = refl; allow = refl; gap = refl; noSpace = λ e. refl }
+among-by false true z false = record { run = refl; other = refl; allow = refl; gap = refl; noSpace = λ e. refl }
+among-by false false true true = record { run = refl; other = refl; allow = refl; gap = refl; noSpace = λ e. refl }
+among-by false false true false = record { run = refl; other = refl; allow = refl; gap = refl; noSpace = λ e. refl }
+among-by false false false true = record { run = refl; other = refl; allow = refl; gap = refl; noSpace = λ e. e }
+among-by false false false false = record { run = refl; other = refl; allow = refl; gap = refl; noSpace = λ e. refl }
 
 of : (b : ℕ) → Among (inRun b) (eqb b opening) (eqb b closing) (eqb b space)
-of b = by-tests (inRun b) (eqb b opening) (eqb b closing) (eqb b space)
+of b = among-by (inRun b) (eqb b opening) (eqb b closing) (eqb b space)
 
 pub asked-runs : ofClass 1 ≡ inRun
 unfolding ofClass
