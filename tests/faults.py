@@ -9,14 +9,14 @@ import support
 Fault = namedtuple("Fault", "words edits")
 
 DIST_AND_GIRDER = """
-file: crates/request/src/lib.rt
-old:         dist: v[1],
-new:         dist: v[2],
-old:         girder: v[2],
-new:         girder: v[1],
-file: crates/request/specs/Shape.antt
-old: (Wing (nth v 0) (nth v 1) (nth v 2) (nth v 3))
-new: (Wing (nth v 0) (nth v 2) (nth v 1) (nth v 3))
+file: crates/parts/src/lib.rt
+old:             dist: v[1],
+new:             dist: v[2],
+old:             girder: v[2],
+new:             girder: v[1],
+file: crates/parts/specs/Shape.antt
+old: Wing (nth v 0) (nth v 1) (nth v 2) (nth v 3)
+new: Wing (nth v 0) (nth v 2) (nth v 1) (nth v 3)
 """
 
 KG_AND_FS = """
@@ -35,20 +35,15 @@ new: kg = nth x 1; fs = nth x 0
 
 NEW_AND_OLD = """
 file: crates/request/src/lib.rt
-old: text::same(rule, b"new")
-new: text::same(rule, b"other")
-old: text::same(rule, b"old")
-new: text::same(rule, b"new")
-old: text::same(rule, b"other")
-new: text::same(rule, b"old")
+old: text::same(word, b"new")
+new: text::same(word, b"other")
+old: text::same(word, b"old")
+new: text::same(word, b"new")
+old: text::same(word, b"other")
+new: text::same(word, b"old")
 file: crates/request/specs/Shape.antt
-old: (is r "new") (got (shipRequest (New
-new: (is r "old") (got (shipRequest (New
-old: (is r "old") (got (shipRequest (Old
-new: (is r "new") (got (shipRequest (Old
-file: crates/request/proofs/Forms.antt
-old: (is r "new") (yields (other _ noColumn (λ n e. cc) refl)) (yields-if (is r "old")
-new: (is r "old") (yields (other _ noColumn (λ n e. cc) refl)) (yields-if (is r "new")
+old: cond (is r "new") (Under NewWord) (cond (is r "old") (Under OldWord)
+new: cond (is r "old") (Under NewWord) (cond (is r "new") (Under OldWord)
 """
 
 SHIP_FORGETS_LOAD = """

@@ -12,10 +12,11 @@ use Rattle.record.specs.Filler.{noSlot, noPart, noHold, padded}
 use Rattle.text.specs.Token.{Token}
 use Rattle.request.specs.declared.Kind.{Kind}
 use Rattle.request.specs.declared.Request.{Request}
-use Rattle.request.specs.Shape.{sectionRecord, holdRecord, holdRequest, requestOf}
-use Rattle.request.proofs.Yields.{Each, Several}
-use Rattle.request.proofs.Forms.{part-yields, request-has}
-use Rattle.request.proofs.Tidy.{inSlot}
+use Rattle.parts.specs.Shape.{sectionRecord}
+use Rattle.request.specs.Shape.{holdRecord, holdRequest, requestOf}
+use Rattle.items.proofs.Yields.{Each, Several}
+use Rattle.parts.proofs.Tidy.{inSlot, part-yields}
+use Rattle.request.proofs.Forms.{request-has}
 
 -- ---- a list in the first of n places
 module _ {A : Type 0} (d : A) where

@@ -1,71 +1,29 @@
 -- What the grammar yields: a hold whose unused fields are 0 and whose unused places are fillers, so that it is carried as it is
 -- within its limits.
-use mathlib.Core.Path.{_≡_, refl, sym, _∙_}
-use mathlib.Core.Bool.{Bool, true}
-use mathlib.Core.List.{List, [], _∷_, map, map-map, map-id}
-use Prim.Native.Nat.{ℕ, _-_}
+use mathlib.Core.Path.{_≡_, refl}
+use mathlib.Core.Bool.{true}
+use mathlib.Core.List.{List}
+use Prim.Native.Nat.{ℕ}
 use native.Mathlib.Omega.{arith}
-use lib.ListN.{length, take, replicate, length-map}
-use lib.Seq.{take-at}
+use lib.ListN.{length}
 use Rattle.whole.specs.Lists.{within, all}
 use Rattle.whole.proofs.Lists.{and-true}
 use Rattle.record.specs.declared.Column.{Column}
-use Rattle.record.specs.declared.Cell.{Cell}
-use Rattle.record.specs.declared.Slot.{Slot}
 use Rattle.record.specs.declared.Mode.{Mode}
 use Rattle.record.specs.declared.Part.{Part}
-use Rattle.record.specs.Held.{cellsOf}
-use Rattle.limits.specs.Limits.{sectionLimits, slackLimits, partLimits, holdLimits}
-use Rattle.record.specs.Filler.{noSlot, noPart, noHold, padded}
+use Rattle.record.specs.Filler.{noPart, noHold}
+use Rattle.limits.specs.Limits.{partLimits, holdLimits}
 use Rattle.text.specs.Token.{Token}
+use Rattle.items.proofs.Kept.{kept-within}
+use Rattle.items.proofs.Yields.{Each, Several}
+use Rattle.parts.specs.Carried.{carriedPart}
+use Rattle.parts.proofs.Tidy.{kept-padded, padded-front, kept-each, KeptPart, part-tidy}
 use Rattle.request.specs.declared.Kind.{Kind}
 use Rattle.request.specs.declared.Kind.the-variants.{HoldLine}
 use Rattle.request.specs.declared.Request.{Request}
-use Rattle.request.specs.Shape.{sectionRecord, slackRecord, holdRecord, holdRequest, part?, requestOf}
-use Rattle.request.specs.Carried.{carriedCell, carriedSlot, carriedPart, carriedHold}
-use Rattle.request.proofs.Records.{map-padded}
-use Rattle.request.proofs.Yields.{Yields, Each, Several}
-use Rattle.request.proofs.Forms.{part-yields, request-has}
-use Rattle.request.proofs.Kept.{kept-within, kept-more, kept-section, kept-slack}
-
--- ---- an array keeps its fillers if the filler is kept
-pub kept-padded : {A : Type 0} (g : A → A) (d : A) → g d ≡ d → (n : ℕ) (l : List A) → map g l ≡ l → map g (padded n d l) ≡ padded n d l
-kept-padded g d same n l e = map-padded g n d l ∙ rw (same, e)
-
-pub padded-front : {A : Type 0} (n : ℕ) (d : A) (l : List A) (k : ℕ) → length l ≡ k → take k (padded n d l) ≡ l
-unfolding padded
-padded-front n d l k e = take-at l (replicate (n - length l) d) k e
-
--- parts that are kept where they are within their limits are kept together
-kept-each : {A : Type 0} (f : A → Bool) (g : A → A) (l : List A) → Each (λ x. f x ≡ true → g x ≡ x) l → all f l ≡ true → map g l ≡ l
-kept-each f g [] p e = refl
-kept-each f g (x ∷ l) p e = kept-more f g x l (p .0) (kept-each f g l (p .1)) e
-
--- ---- a part of cells: the cells that its limits test are those that were read
-abbrev pub inSlot : Cell → Slot
-inSlot c = record { cell = c }
-
-section-cells : (v : ℕ) (cs : List Cell) → cellsOf (sectionRecord v cs) ≡ cs
-section-cells v cs =
-    rw (padded-front 8 noSlot (map inSlot cs) (length cs) (length-map cs inSlot), map-map (λ (s : Slot). s .cell) inSlot cs) (map-id cs)
-
-kept-slots : (cs : List Cell) → map carriedCell cs ≡ cs → map carriedSlot (map inSlot cs) ≡ map inSlot cs
-kept-slots cs e = map-map carriedSlot inSlot cs ∙ sym (map-map inSlot carriedCell cs) ∙ rw e
-
-section-stays : (v : ℕ) (cs : List Cell) → sectionLimits (sectionRecord v cs) ≡ true → carriedPart (sectionRecord v cs) ≡ sectionRecord v cs
-section-stays v cs e =
-    let t = kept-section (sectionRecord v cs) e in
-    rw (t .0, kept-padded carriedSlot noSlot refl 8 (map inSlot cs) (kept-slots cs (rw (section-cells v cs) at (t .1))))
-
-slack-stays : (v : List ℕ) → slackLimits (slackRecord v) ≡ true → carriedPart (slackRecord v) ≡ slackRecord v
-slack-stays v e = kept-slack (slackRecord v) e (kept-padded carriedSlot noSlot refl 8 [] refl)
-
--- ---- a part that is read, by its mode
-abbrev KeptPart : Mode → Part → Type 0
-KeptPart m p = partLimits m p ≡ true → carriedPart p ≡ p
-
-part-tidy : (m : Mode) (ts : List Token) → Yields (KeptPart m) (part? m ts)
-part-tidy = part-yields KeptPart (λ v cs n. section-stays v cs) (λ v cs n. section-stays v cs) slack-stays
+use Rattle.request.specs.Shape.{holdRecord, holdRequest, requestOf}
+use Rattle.request.specs.Carried.{carriedHold}
+use Rattle.request.proofs.Forms.{request-has}
 
 -- ---- a hold of such parts
 hold-stays : (m : Mode) (factor : ℕ) (ps : List Part) → Each (KeptPart m) ps → holdLimits (holdRecord m factor ps) ≡ true → carriedHold (holdRecord m factor ps) ≡ holdRecord m factor ps

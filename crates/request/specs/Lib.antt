@@ -1,4 +1,2 @@
-pub mod Grammar
 pub mod Shape
 pub mod Carried
-pub mod Places

@@ -1,27 +1,30 @@
--- Document 01, Lines of the panel: the shapes. A line that is none of them is code 14.
+-- Document 01, Lines of the panel: the shapes. A line that is none of them is code 14. Those of cells and parts are in parts/specs/Shape.antt.
 use mathlib.Core.Bool.{cond}
-use mathlib.Core.List.{List, [], map}
+use mathlib.Core.List.{List}
 use Prim.Native.Nat.{ℕ}
-use lib.ListN.{length, getD}
+use lib.ListN.{length}
 use Rattle.record.specs.declared.Rule.{Rule}
 use Rattle.record.specs.declared.Rule.the-variants.{New, Old}
 use Rattle.record.specs.declared.Column.{Column}
 use Rattle.record.specs.declared.Mode.{Mode}
 use Rattle.record.specs.declared.Mode.the-variants.{Trimmed, Voided, Partial}
-use Rattle.record.specs.declared.Cell.{Cell}
-use Rattle.record.specs.declared.Cell.the-variants.{Wing, Hatch, Void}
 use Rattle.record.specs.declared.Part.{Part}
 use Rattle.record.specs.declared.Hold.{Hold}
-use Rattle.record.specs.Filler.{noColumn, noSlot, noPart, noHold, padded}
+use Rattle.record.specs.Filler.{noColumn, noPart, noHold, padded}
 use Rattle.text.specs.Token.{Token}
+use Rattle.items.specs.Grammar.{Parsed, got, none, _andThen_, open?, close?, run?, head?, is, number?, nth, lastNumbers?, several?, whole?}
+use Rattle.parts.specs.Shape.{part?}
+use Rattle.request.specs.declared.RuleWord.{RuleWord}
+use Rattle.request.specs.declared.RuleWord.the-variants.{NewWord, OldWord}
+use Rattle.request.specs.declared.RuleNamed.{RuleNamed}
+use Rattle.request.specs.declared.RuleNamed.the-variants.{Under, NoRule}
+use Rattle.request.specs.declared.ModeNamed.{ModeNamed}
+use Rattle.request.specs.declared.ModeNamed.the-variants.{As, NoMode}
+use Rattle.request.specs.declared.FormWord.{FormWord}
+use Rattle.request.specs.declared.FormWord.the-variants.{ShipWord, ColumnWord, LoadWord, HoldWord, DropWord, JudgeWord, ClearWord, NoWord}
 use Rattle.request.specs.declared.Kind.{Kind}
 use Rattle.request.specs.declared.Kind.the-variants.{ShipLine, ColumnLine, LoadLine, HoldLine, DropLine, JudgeLine, ClearLine, NoShape}
 use Rattle.request.specs.declared.Request.{Request}
-use Rattle.request.specs.Grammar.{Parsed, got, none, _andThen_, open?, close?, run?, head?, is, number?, lastNumbers?, several?, whole?}
-
--- the n-th of the numbers read
-abbrev pub nth : List ℕ → ℕ → ℕ
-nth vs n = getD vs n 0
 
 -- a request with no hold or column beside it; one with a column; one with a hold
 abbrev pub plain : Kind → Request
@@ -34,15 +37,22 @@ abbrev pub holdRequest : ℕ → Hold → Request
 holdRequest n h = record { kind = HoldLine n; hold = h; column = noColumn }
 
 -- `RULE EDGE FLOOD)` behind `(ship`
-abbrev pub shipRequest : Rule → ℕ → Request
-shipRequest rule flood = plain (ShipLine (record { rule = rule; flood = flood }))
+unfoldable pub ruleNamed : List ℕ → RuleNamed
+ruleNamed r = cond (is r "new") (Under NewWord) (cond (is r "old") (Under OldWord) NoRule)
+
+abbrev pub ruleOf : RuleWord → ℕ → Rule
+ruleOf NewWord edge = New edge
+ruleOf OldWord edge = Old edge
+
+abbrev pub shipRequest : RuleWord → List ℕ → Request
+shipRequest w v = plain (ShipLine (record { rule = ruleOf w (nth v 0); flood = nth v 1 }))
+
+abbrev pub shipBy : RuleNamed → List Token → Parsed Request
+shipBy (Under w) ts = lastNumbers? 2 ts andThen λ v us. got (shipRequest w v) us
+shipBy NoRule ts = none
 
 unfoldable pub ship? : List Token → Parsed Request
-ship? ts =
-    run? ts andThen λ r us.
-    lastNumbers? 2 us andThen λ v ws.
-    cond (is r "new") (got (shipRequest (New (nth v 0)) (nth v 1)) ws)
-    (cond (is r "old") (got (shipRequest (Old (nth v 0)) (nth v 1)) ws) none)
+ship? ts = run? ts andThen λ r us. shipBy (ruleNamed r) us
 
 -- `D KM (K .. K))` behind `(column`
 unfoldable pub column? : List Token → Parsed Request
@@ -61,60 +71,6 @@ load? ts =
     lastNumbers? 2 us andThen λ v ws.
     got (plain (LoadLine (record { d = d; kg = nth v 0; fs = nth v 1 }))) ws
 
--- `WIDTH DIST GIRDER LIP)`, `WIDTH OPEN LIP)`, `WIDTH DEPTH LIP)`, each behind its word
-unfoldable pub wing? : List Token → Parsed Cell
-wing? ts = lastNumbers? 4 ts andThen λ v us. got (Wing (nth v 0) (nth v 1) (nth v 2) (nth v 3)) us
-
-unfoldable pub hatch? : List Token → Parsed Cell
-hatch? ts = lastNumbers? 3 ts andThen λ v us. got (Hatch (nth v 0) (nth v 1) (nth v 2)) us
-
-unfoldable pub void? : List Token → Parsed Cell
-void? ts = lastNumbers? 3 ts andThen λ v us. got (Void (nth v 0) (nth v 1) (nth v 2)) us
-
--- a cell, by its word
-unfoldable pub cell? : List Token → Parsed Cell
-cell? ts =
-    head? ts andThen λ r us.
-    cond (is r "wing") (wing? us)
-    (cond (is r "hatch") (hatch? us)
-    (cond (is r "void") (void? us) none))
-
--- a part of cells, and a part of four sizes; unused places are filled, so that equal records are equal values
-abbrev pub sectionRecord : ℕ → List Cell → Part
-sectionRecord length′ cs =
-    record {
-      length = length′;
-      breadth = 0;
-      void = 0;
-      grain = 0;
-      count = length cs;
-      cells = padded 8 noSlot (map (λ c. record { cell = c }) cs);
-    }
-
-abbrev pub slackRecord : List ℕ → Part
-slackRecord v =
-    record { length = nth v 0; breadth = nth v 1; void = nth v 2; grain = nth v 3; count = 0; cells = padded 8 noSlot [] }
-
--- `LENGTH CELL ..)` behind `(part`, with one to eight cells
-unfoldable pub section? : List Token → Parsed Part
-section? ts =
-    number? ts andThen λ v us.
-    several? 8 cell? us andThen λ cs ws.
-    got (sectionRecord v cs) ws
-
--- `LENGTH BREADTH VOID GRAIN)` behind `(part`
-unfoldable pub slack? : List Token → Parsed Part
-slack? ts = lastNumbers? 4 ts andThen λ v us. got (slackRecord v) us
-
--- the parts go by the mode
-unfoldable pub body? : Mode → List Token → Parsed Part
-body? Trimmed ts = section? ts
-body? Voided ts = section? ts
-body? Partial ts = slack? ts
-
-unfoldable pub part? : Mode → List Token → Parsed Part
-part? mode ts = head? ts andThen λ r us. cond (is r "part") (body? mode us) none
-
 -- a hold of these parts
 abbrev pub holdRecord : Mode → ℕ → List Part → Hold
 holdRecord mode factor ps =
@@ -128,13 +84,21 @@ parts? n mode ts =
     got (holdRequest n (holdRecord mode factor ps)) ws
 
 -- `N MODE ..` behind `(hold`
+unfoldable pub modeNamed : List ℕ → ModeNamed
+modeNamed r =
+    cond (is r "trimmed") (As Trimmed)
+    (cond (is r "voided") (As Voided)
+    (cond (is r "partial") (As Partial) NoMode))
+
+abbrev pub partsBy : ℕ → ModeNamed → List Token → Parsed Request
+partsBy n (As mode) ts = parts? n mode ts
+partsBy n NoMode ts = none
+
 unfoldable pub hold? : List Token → Parsed Request
 hold? ts =
     number? ts andThen λ n us.
     run? us andThen λ r ws.
-    cond (is r "trimmed") (parts? n Trimmed ws)
-    (cond (is r "voided") (parts? n Voided ws)
-    (cond (is r "partial") (parts? n Partial ws) none))
+    partsBy n (modeNamed r) ws
 
 -- `N)` behind `(drop`
 unfoldable pub drop? : List Token → Parsed Request
@@ -144,17 +108,29 @@ drop? ts = number? ts andThen λ n us. close? us andThen λ u ws. got (plain (Dr
 unfoldable pub bare? : Kind → List Token → Parsed Request
 bare? k ts = close? ts andThen λ u us. got (plain k) us
 
--- a form, by its first word
+-- a form, by its first word: its word, and the shape of what stands behind it
+unfoldable pub formWord : List ℕ → FormWord
+formWord r =
+    cond (is r "ship") ShipWord
+    (cond (is r "column") ColumnWord
+    (cond (is r "load") LoadWord
+    (cond (is r "hold") HoldWord
+    (cond (is r "drop") DropWord
+    (cond (is r "judge") JudgeWord
+    (cond (is r "clear") ClearWord NoWord))))))
+
+abbrev pub formBy : FormWord → List Token → Parsed Request
+formBy ShipWord ts = ship? ts
+formBy ColumnWord ts = column? ts
+formBy LoadWord ts = load? ts
+formBy HoldWord ts = hold? ts
+formBy DropWord ts = drop? ts
+formBy JudgeWord ts = bare? JudgeLine ts
+formBy ClearWord ts = bare? ClearLine ts
+formBy NoWord ts = none
+
 unfoldable pub form? : List Token → Parsed Request
-form? ts =
-    head? ts andThen λ r us.
-    cond (is r "ship") (ship? us)
-    (cond (is r "column") (column? us)
-    (cond (is r "load") (load? us)
-    (cond (is r "hold") (hold? us)
-    (cond (is r "drop") (drop? us)
-    (cond (is r "judge") (bare? JudgeLine us)
-    (cond (is r "clear") (bare? ClearLine us) none))))))
+form? ts = head? ts andThen λ r us. formBy (formWord r) us
 
 -- the request of a line's tokens
 unfoldable pub requestOf : List Token → Request

@@ -1,9 +1,9 @@
 -- `bare_at`: `)`
-use Rattle.request.proofs.Walks.{ends-next}
+use Rattle.items.proofs.Walks.{ends-next}
 use mathlib.Core.Path.{sym}
 use lib.ListN.{drop}
 use Rattle.text.specs.Token.{tokens}
-use Rattle.request.specs.Grammar.{close?}
+use Rattle.items.specs.Grammar.{close?}
 use Rattle.request.specs.Shape.{bare?, plain}
 use borrow.Author.Needs.{needs}
 use Rattle.request.proofs.bare_at.Statement.{statement}

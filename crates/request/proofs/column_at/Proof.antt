@@ -4,9 +4,10 @@ use mathlib.Core.List.{map}
 use native.Mathlib.Omega.{arith}
 use lib.ListN.{take, drop, length}
 use Rattle.text.specs.Token.{tokens}
-use Rattle.request.specs.Grammar.{number?, lastNumbers?, close?}
-use Rattle.request.specs.Carried.{carried, carriedRequest}
-use Rattle.request.proofs.Walks.{carries, carries-none, ends-after}
+use Rattle.items.specs.Grammar.{number?, lastNumbers?, close?}
+use Rattle.items.specs.Carried.{carried}
+use Rattle.request.specs.Carried.{carriedRequest}
+use Rattle.items.proofs.Walks.{carries, carries-none, ends-after}
 use lib.Seq.{take-all}
 use Rattle.request.specs.Shape.{column?, columnRequest}
 use borrow.Author.Needs.{needs}

@@ -2,9 +2,9 @@
 use lib.ListN.{drop}
 use Rattle.text.specs.Token.{tokens}
 use Rattle.request.specs.declared.Kind.the-variants.{DropLine}
-use Rattle.request.specs.Grammar.{close?}
+use Rattle.items.specs.Grammar.{close?}
 use Rattle.request.specs.Carried.{carriedRequest}
-use Rattle.request.proofs.Walks.{ends-after}
+use Rattle.items.proofs.Walks.{ends-after}
 use Rattle.request.specs.Shape.{drop?, plain}
 use borrow.Author.Needs.{needs}
 use Rattle.request.proofs.drop_at.Statement.{statement}

@@ -4,10 +4,12 @@ use native.Mathlib.Omega.{arith}
 use lib.ListN.{take, drop}
 use Rattle.text.specs.Token.{tokens}
 use Rattle.request.specs.declared.Kind.the-variants.{LoadLine}
-use Rattle.request.specs.Grammar.{lastNumbers?}
-use Rattle.request.specs.Carried.{carried, carriedRequest}
-use Rattle.request.proofs.Walks.{ends-built, nth-kept}
-use Rattle.request.specs.Shape.{load?, plain, nth}
+use Rattle.items.specs.Grammar.{lastNumbers?}
+use Rattle.items.specs.Carried.{carried}
+use Rattle.request.specs.Carried.{carriedRequest}
+use Rattle.items.proofs.Walks.{ends-built, nth-kept}
+use Rattle.request.specs.Shape.{load?, plain}
+use Rattle.items.specs.Grammar.{nth}
 use borrow.Author.Needs.{needs}
 use Rattle.request.proofs.load_at.Statement.{statement}
 use Rattle.request.proofs.load_at.Tie as tie

@@ -3,12 +3,16 @@ use mathlib.Core.Path.{_∙_}
 use native.Mathlib.Omega.{arith}
 use lib.ListN.{drop}
 use Rattle.text.specs.Token.{tokens}
-use Rattle.request.specs.Grammar.{number?, items?}
-use Rattle.request.specs.Carried.{carried, carriedRequest, carriedPart}
-use Rattle.request.proofs.Walks.{carries, carries-none}
+use Rattle.items.specs.Grammar.{number?, items?}
+use Rattle.items.specs.Carried.{carried}
+use Rattle.request.specs.Carried.{carriedRequest}
+use Rattle.parts.specs.Carried.{carriedPart}
+use Rattle.items.proofs.Walks.{carries, carries-none}
 use Rattle.record.specs.Filler.{noPart}
-use Rattle.request.proofs.Records.{some-items, no-items, hold-kept}
-use Rattle.request.specs.Shape.{parts?, part?, holdRequest, holdRecord}
+use Rattle.parts.proofs.Records.{some-items, no-items}
+use Rattle.request.proofs.Records.{hold-kept}
+use Rattle.request.specs.Shape.{parts?, holdRequest, holdRecord}
+use Rattle.parts.specs.Shape.{part?}
 use borrow.Author.Needs.{needs}
 use Rattle.request.proofs.parts_at.Statement.{statement}
 use Rattle.request.proofs.parts_at.Tie as tie

@@ -5,8 +5,8 @@ use Rattle.text.specs.Token.{tokens}
 use Rattle.request.specs.declared.Kind.the-variants.{NoShape}
 use Rattle.request.specs.Shape.{form?, requestOf, plain}
 use Rattle.request.specs.Carried.{carriedRequest}
-use Rattle.request.proofs.Walks.{carries, carries-none}
-use Rattle.request.proofs.Records.{whole-end, whole-more}
+use Rattle.items.proofs.Walks.{carries, carries-none}
+use Rattle.items.proofs.Walks.{whole-end, whole-more}
 use borrow.Author.Needs.{needs}
 use Rattle.request.proofs.request_of.Statement.{statement}
 use Rattle.request.proofs.request_of.Tie as tie

@@ -1,0 +1,4 @@
+pub mod Filling
+pub mod Records
+pub mod Kept
+pub mod Tidy

@@ -1,0 +1,114 @@
+-- `form_by`: what stands behind a form's word.
+use mathlib.Core.Path.{refl}
+use lib.ListN.{drop}
+use Rattle.text.specs.Token.{tokens}
+use Rattle.request.specs.declared.Kind.the-variants.{JudgeLine, ClearLine}
+use Rattle.request.proofs.Records.{bare-kept}
+use borrow.Author.Needs.{needs}
+use Rattle.request.proofs.form_by.Statement.{statement}
+use Rattle.request.proofs.form_by.Tie as tie
+
+enum-told : tie.Need-enum-told
+enum-told c = search needs
+
+ship-at-requires : tie.Need-ship-at-requires
+ship-at-requires c κs = search needs
+
+enum-told-2 : tie.Need-enum-told-2
+enum-told-2 c = search needs
+
+column-at-requires : tie.Need-column-at-requires
+column-at-requires c κs = search needs
+
+enum-told-3 : tie.Need-enum-told-3
+enum-told-3 c = search needs
+
+load-at-requires : tie.Need-load-at-requires
+load-at-requires c κs = search needs
+
+enum-told-4 : tie.Need-enum-told-4
+enum-told-4 c = search needs
+
+hold-at-requires : tie.Need-hold-at-requires
+hold-at-requires c κs = search needs
+
+enum-told-5 : tie.Need-enum-told-5
+enum-told-5 c = search needs
+
+drop-at-requires : tie.Need-drop-at-requires
+drop-at-requires c κs = search needs
+
+enum-told-6 : tie.Need-enum-told-6
+enum-told-6 c = search needs
+
+bare-at-requires : tie.Need-bare-at-requires
+bare-at-requires c κs = search needs
+
+enum-told-7 : tie.Need-enum-told-7
+enum-told-7 c = search needs
+
+bare-at-requires-2 : tie.Need-bare-at-requires-2
+bare-at-requires-2 c κs = search needs
+
+enum-told-8 : tie.Need-enum-told-8
+enum-told-8 c = search needs
+
+no-form-requires : tie.Need-no-form-requires
+no-form-requires c κs = search needs
+
+returns : tie.Need-returns
+returns c = rw (c .before .enum-told .given .1) (c .ship-at .ensures)
+
+returns-2 : tie.Need-returns-2
+returns-2 c = rw (c .before .enum-told2 .given .1) (c .column-at .ensures)
+
+returns-3 : tie.Need-returns-3
+returns-3 c = rw (c .before .enum-told3 .given .1) (c .load-at .ensures)
+
+returns-4 : tie.Need-returns-4
+returns-4 c = rw (c .before .enum-told4 .given .1) (c .hold-at .ensures)
+
+returns-5 : tie.Need-returns-5
+returns-5 c = rw (c .before .enum-told5 .given .1) (c .drop-at .ensures)
+
+returns-6 : tie.Need-returns-6
+returns-6 c =
+    let a = c .before .before .before .before .args in
+    rw (c .before .enum-told6 .given .1, bare-kept JudgeLine (tokens (drop (a .at) (a .s .now))) refl) (c .bare-at .ensures)
+
+returns-7 : tie.Need-returns-7
+returns-7 c =
+    let a = c .before .before .before .before .args in
+    rw (c .before .enum-told7 .given .1, bare-kept ClearLine (tokens (drop (a .at) (a .s .now))) refl) (c .bare-at2 .ensures)
+
+returns-8 : tie.Need-returns-8
+returns-8 c = rw (c .before .enum-told8 .given .1, c .no-form .ensures .1)
+
+pub form-by-spec : {M : Type 1} → statement M
+form-by-spec =
+    tie.close
+    (tie.spec
+    enum-told
+    ship-at-requires
+    enum-told-2
+    column-at-requires
+    enum-told-3
+    load-at-requires
+    enum-told-4
+    hold-at-requires
+    enum-told-5
+    drop-at-requires
+    enum-told-6
+    bare-at-requires
+    enum-told-7
+    bare-at-requires-2
+    enum-told-8
+    no-form-requires
+    returns
+    returns-2
+    returns-3
+    returns-4
+    returns-5
+    returns-6
+    returns-7
+    returns-8)
