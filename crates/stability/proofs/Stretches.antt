@@ -1,17 +1,18 @@
 -- Laws of the area above zero, as the code makes it: where nothing lies above, where all does, and a whole stretch at its own size.
-use mathlib.Core.Path.{_≡_, refl, sym, ap₂, _∙_}
+use mathlib.Core.Path.{_≡_, refl, sym, ap, ap₂, _∙_}
 use Prim.Native.Nat.{ℕ, suc, _+_, _*_, _-_, _/_, _^_, _≤_, _<_}
 use native.Mathlib.Omega.{arith}
 use native.Mathlib.Nat.{mul-zero, zero-mul, zero-div, add-zero, mul-pos, mul-div-mul-right, mul-le-mul, mul-le-mul-left, div-le-of-le-mul}
 use mathlib.Core.List.{List}
 use native.Mathlib.Numerals.{add-one}
+use lib.ListN.{getD}
 use lib.IntN.{ℤ, pos, negsuc}
 use Rattle.sign.specs.Sign.{plus, minus}
 use Rattle.whole.specs.Line.{onLine}
 use Rattle.whole.proofs.Lines.{line-end, line-le}
 use Rattle.stability.specs.Angles.{angle, width}
 use Rattle.stability.specs.Area.{areaAbove, endsAbove, counted, stretchArea, areaOver, plusAt, minusAt}
-use Rattle.stability.specs.Walk.{EndBounds, partArea}
+use Rattle.stability.specs.Walk.{Bounded, EndBounds, partArea}
 
 pub nothing-above : (t s n : ℕ) → 0 ≡ areaAbove t s 0 n
 nothing-above t s n = sym (rw (mul-zero, zero-div) refl)
@@ -21,6 +22,13 @@ nothing-counted s u n = sym (rw (zero-mul u, zero-mul u, zero-div) refl)
 
 pub all-above : (t s u : ℕ) → 0 < u → t * u / (2 * s) ≡ areaAbove t s u 0
 all-above t s u p = sym (rw (add-zero u) (mul-div-mul-right (t * u) (2 * s) p))
+
+-- ---- the ends of a stretch: its width, and the bounds of the differences there
+pub width-between : (k : ℕ) {from to : ℕ} → from ≡ angle k → to ≡ angle (k + 1) → to - from ≡ width k
+width-between k a b = ap₂ _-_ (b ∙ ap angle (add-one k)) a
+
+pub end-bounds : (ds : List ℤ) (k : ℕ) → Bounded ds → k < 10 → EndBounds (getD ds k (pos 0))
+end-bounds ds k b h = record { above = b .above k h; below = b .below k h }
 
 -- ---- a whole stretch
 own-plus : (h : ℕ) (z : ℤ) → h * plus z - h * minus z ≡ h * plus z

@@ -11,7 +11,7 @@ use lib.IntN.{pos}
 use Rattle.stability.specs.Angles.{angle, width}
 use Rattle.stability.specs.Walk.{EndBounds, partArea}
 use Rattle.stability.proofs.Tens.{angle-rises, width-some, width-le}
-use Rattle.stability.proofs.Stretches.{nothing-counted, counted-none, counted-whole, counted-part, part-le}
+use Rattle.stability.proofs.Stretches.{width-between, end-bounds, nothing-counted, counted-none, counted-whole, counted-part, part-le}
 use borrow.Author.Needs.{needs}
 use Rattle.stability.proofs.stretch_area.Statement.{statement}
 use Rattle.stability.proofs.stretch_area.Tie as tie
@@ -49,9 +49,7 @@ sub-full-area c =
     let k = s .args .k in
     let u = s .args .upper in
     let ds = s .args .t1 in
-    let a = c .before .before .before .before .before .angle-at .ensures in
-    let z : c .before .before .before .angle-at2 .result ≡ angle (suc k) = c .before .before .before .angle-at2 .ensures ∙ ap angle (add-one k) in
-    let w : c .before .before .before .angle-at2 .result - c .before .before .before .before .before .angle-at .result ≡ width k = ap₂ _-_ z a in
+    let w = width-between k (c .before .before .before .before .before .angle-at .ensures) (c .before .before .before .angle-at2 .ensures) in
     omega (arith, angle-rises k (s .pre .1))
 
 full-area-requires : tie.Need-full-area-requires
@@ -60,13 +58,11 @@ full-area-requires c κs =
     let k = s .args .k in
     let u = s .args .upper in
     let ds = s .args .t1 in
-    let a = c .before .before .before .before .before .angle-at .ensures in
-    let z : c .before .before .before .angle-at2 .result ≡ angle (suc k) = c .before .before .before .angle-at2 .ensures ∙ ap angle (add-one k) in
-    let w : c .before .before .before .angle-at2 .result - c .before .before .before .before .before .angle-at .result ≡ width k = ap₂ _-_ z a in
+    let w = width-between k (c .before .before .before .before .before .angle-at .ensures) (c .before .before .before .angle-at2 .ensures) in
     let x = toZ-ofZ {w = w64} {z = getD ds k (pos 0)} (sfits-of (c .before .before .d .given)) in
     let y = toZ-ofZ {w = w64} {z = getD ds (k + 1) (pos 0)} (sfits-of (c .before .e .given)) in
-    let bx : EndBounds (getD ds k (pos 0)) = record { above = s .pre .0 .above k (omega (arith, s .pre .1)); below = s .pre .0 .below k (omega (arith, s .pre .1)) } in
-    let by : EndBounds (getD ds (k + 1) (pos 0)) = record { above = s .pre .0 .above (k + 1) (omega (arith, s .pre .1)); below = s .pre .0 .below (k + 1) (omega (arith, s .pre .1)) } in
+    let bx = end-bounds ds k (s .pre .0) (omega (arith, s .pre .1)) in
+    let by = end-bounds ds (k + 1) (s .pre .0) (omega (arith, s .pre .1)) in
     rw (x, y, w) (width-some k (s .pre .1), width-le k (s .pre .1), bx, by)
 
 returns-2 : tie.Need-returns-2
@@ -75,13 +71,12 @@ returns-2 c =
     let k = s .args .k in
     let u = s .args .upper in
     let ds = s .args .t1 in
-    let a = c .before .before .before .before .before .before .angle-at .ensures in
-    let z : c .before .before .before .before .angle-at2 .result ≡ angle (suc k) = c .before .before .before .before .angle-at2 .ensures ∙ ap angle (add-one k) in
-    let w : c .before .before .before .before .angle-at2 .result - c .before .before .before .before .before .before .angle-at .result ≡ width k = ap₂ _-_ z a in
+    let z = c .before .before .before .before .angle-at2 .ensures ∙ ap angle (add-one k) in
+    let w = width-between k (c .before .before .before .before .before .before .angle-at .ensures) (c .before .before .before .before .angle-at2 .ensures) in
     let x = toZ-ofZ {w = w64} {z = getD ds k (pos 0)} (sfits-of (c .before .before .before .d .given)) in
     let y = toZ-ofZ {w = w64} {z = getD ds (k + 1) (pos 0)} (sfits-of (c .before .before .e .given)) in
-    let bx : EndBounds (getD ds k (pos 0)) = record { above = s .pre .0 .above k (omega (arith, s .pre .1)); below = s .pre .0 .below k (omega (arith, s .pre .1)) } in
-    let by : EndBounds (getD ds (k + 1) (pos 0)) = record { above = s .pre .0 .above (k + 1) (omega (arith, s .pre .1)); below = s .pre .0 .below (k + 1) (omega (arith, s .pre .1)) } in
+    let bx = end-bounds ds k (s .pre .0) (omega (arith, s .pre .1)) in
+    let by = end-bounds ds (k + 1) (s .pre .0) (omega (arith, s .pre .1)) in
     let h : angle (suc k) ≤ u = omega (arith, c .before .if2 .taken) in
     let e : c .full-area .result ≡ partArea (width k) (width k) (getD ds k (pos 0)) (getD ds (k + 1) (pos 0)) = c .full-area .ensures ∙ rw (x, y, w) refl in
     (e ∙ rw (add-one k, counted-whole u k h) refl, omega (arith, part-le (width k) (width k) (getD ds k (pos 0)) (getD ds (k + 1) (pos 0)) (omega arith) (width-some k (s .pre .1)) (width-le k (s .pre .1)) bx by))
@@ -92,9 +87,7 @@ sub-part-area c =
     let k = s .args .k in
     let u = s .args .upper in
     let ds = s .args .t1 in
-    let a = c .before .before .before .before .before .angle-at .ensures in
-    let z : c .before .before .before .angle-at2 .result ≡ angle (suc k) = c .before .before .before .angle-at2 .ensures ∙ ap angle (add-one k) in
-    let w : c .before .before .before .angle-at2 .result - c .before .before .before .before .before .angle-at .result ≡ width k = ap₂ _-_ z a in
+    let w = width-between k (c .before .before .before .before .before .angle-at .ensures) (c .before .before .before .angle-at2 .ensures) in
     omega (arith, angle-rises k (s .pre .1))
 
 sub-part-area-2 : tie.Need-sub-part-area-2
@@ -106,13 +99,11 @@ part-area-requires c κs =
     let k = s .args .k in
     let u = s .args .upper in
     let ds = s .args .t1 in
-    let a = c .before .before .before .before .before .angle-at .ensures in
-    let z : c .before .before .before .angle-at2 .result ≡ angle (suc k) = c .before .before .before .angle-at2 .ensures ∙ ap angle (add-one k) in
-    let w : c .before .before .before .angle-at2 .result - c .before .before .before .before .before .angle-at .result ≡ width k = ap₂ _-_ z a in
+    let w = width-between k (c .before .before .before .before .before .angle-at .ensures) (c .before .before .before .angle-at2 .ensures) in
     let x = toZ-ofZ {w = w64} {z = getD ds k (pos 0)} (sfits-of (c .before .before .d .given)) in
     let y = toZ-ofZ {w = w64} {z = getD ds (k + 1) (pos 0)} (sfits-of (c .before .e .given)) in
-    let bx : EndBounds (getD ds k (pos 0)) = record { above = s .pre .0 .above k (omega (arith, s .pre .1)); below = s .pre .0 .below k (omega (arith, s .pre .1)) } in
-    let by : EndBounds (getD ds (k + 1) (pos 0)) = record { above = s .pre .0 .above (k + 1) (omega (arith, s .pre .1)); below = s .pre .0 .below (k + 1) (omega (arith, s .pre .1)) } in
+    let bx = end-bounds ds k (s .pre .0) (omega (arith, s .pre .1)) in
+    let by = end-bounds ds (k + 1) (s .pre .0) (omega (arith, s .pre .1)) in
     rw (x, y) (omega arith, omega (arith, width-some k (s .pre .1)), omega (arith, width-le k (s .pre .1)), bx, by)
 
 returns-3 : tie.Need-returns-3
@@ -122,12 +113,12 @@ returns-3 c =
     let u = s .args .upper in
     let ds = s .args .t1 in
     let a = c .before .before .before .before .before .before .angle-at .ensures in
-    let z : c .before .before .before .before .angle-at2 .result ≡ angle (suc k) = c .before .before .before .before .angle-at2 .ensures ∙ ap angle (add-one k) in
-    let w : c .before .before .before .before .angle-at2 .result - c .before .before .before .before .before .before .angle-at .result ≡ width k = ap₂ _-_ z a in
+    let z = c .before .before .before .before .angle-at2 .ensures ∙ ap angle (add-one k) in
+    let w = width-between k (c .before .before .before .before .before .before .angle-at .ensures) (c .before .before .before .before .angle-at2 .ensures) in
     let x = toZ-ofZ {w = w64} {z = getD ds k (pos 0)} (sfits-of (c .before .before .before .d .given)) in
     let y = toZ-ofZ {w = w64} {z = getD ds (k + 1) (pos 0)} (sfits-of (c .before .before .e .given)) in
-    let bx : EndBounds (getD ds k (pos 0)) = record { above = s .pre .0 .above k (omega (arith, s .pre .1)); below = s .pre .0 .below k (omega (arith, s .pre .1)) } in
-    let by : EndBounds (getD ds (k + 1) (pos 0)) = record { above = s .pre .0 .above (k + 1) (omega (arith, s .pre .1)); below = s .pre .0 .below (k + 1) (omega (arith, s .pre .1)) } in
+    let bx = end-bounds ds k (s .pre .0) (omega (arith, s .pre .1)) in
+    let by = end-bounds ds (k + 1) (s .pre .0) (omega (arith, s .pre .1)) in
     let h : u < angle (suc k) = omega (arith, c .before .if2 .left) in
     let v : u - c .before .before .before .before .before .before .angle-at .result ≡ u - angle k = ap (λ n. u - n) a in
     let e : c .part-area .result ≡ partArea (width k) (u - angle k) (getD ds k (pos 0)) (getD ds (k + 1) (pos 0)) = c .part-area .ensures ∙ rw (x, y, w, v) refl in
