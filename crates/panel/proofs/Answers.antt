@@ -1,4 +1,4 @@
--- What the code of an answer says of the answer: 0 for the one that is taken, its own code for each other.
+-- What is heard of a line has the line's outcome, and its effect is the condition after it.
 use mathlib.Core.Path.{_≡_, refl, sym, _∙_, ap}
 use mathlib.Core.Bool.{Bool, true, false, cond}
 use mathlib.Core.List.{List, []}
@@ -6,9 +6,6 @@ use Prim.Native.Nat.{ℕ, _≤_, _<_}
 use native.Mathlib.Omega.{arith}
 use lib.Dec.{eqb, ltb}
 use borrow.Author.Tests.{lt-ltb, le-ltb, ne-eqb, eqb-false}
-use Rattle.grain.specs.declared.Weighed.{Weighed}
-use Rattle.grain.specs.declared.Weighed.the-variants.{Weight, NoFit, Limits as Outside}
-use Rattle.grain.specs.Sum.{weighedCode}
 use Rattle.text.specs.declared.Reading.{Reading}
 use Rattle.text.specs.declared.Reading.the-variants.{Sound, TooLong, BadByte, NotOneForm, BadNumber}
 use Rattle.text.specs.Token.{tokens}
@@ -16,20 +13,21 @@ use Rattle.text.specs.Line.{readingOf, readingCode}
 use Rattle.request.specs.declared.Kind.the-variants.{NoShape}
 use Rattle.request.specs.Shape.{plain}
 use Rattle.condition.specs.declared.Condition.{Condition}
-use Rattle.panel.specs.Operations.{Change, refusedWith}
+use Rattle.operations.specs.Operations.{refusedWith}
 use Rattle.panel.specs.declared.Heard.{Heard}
 use Rattle.panel.specs.Step.{Outcome, answered, outcomeOf, outcomeAfter, stepOf}
 use Rattle.panel.specs.Answering.{heardBy, heardOf, heardOutcome, effectOf}
-use Rattle.panel.proofs.Taking.{chosen}
-use Rattle.panel.proofs.Demand1.{refusals-change-nothing}
+use Rattle.panel.proofs.Codes.{right}
 use Rattle.panel.proofs.Carrying.{carried-outcome}
 use Rattle.panel.proofs.Effects.{effect-is}
 
--- a hold within the places
-pub hold-coded : (c : Condition) (t : Change) (r : Weighed) → t .code ≡ 0 → chosen r t (refusedWith 21 c) (refusedWith 20 c) .code ≡ weighedCode r
-hold-coded c t (Weight w) e = e
-hold-coded c t NoFit e = refl
-hold-coded c t Outside e = refl
+-- a line that passes the tests of the whole line: none of 10 to 13 applies
+pub line-sound : (t : Reading) → readingCode t ≡ 0 → t ≡ Sound
+line-sound Sound e = refl
+line-sound TooLong e = absurd (omega arith)
+line-sound BadByte e = absurd (omega arith)
+line-sound NotOneForm e = absurd (omega arith)
+line-sound BadNumber e = absurd (omega arith)
 
 -- what is heard of a line that is turned down, and that it has the line's outcome
 pub heard-down : (line : List ℕ) (t : Reading) (n : ℕ) → n ≡ readingCode t → (n ≡ 0 → ⊥) → heardBy line t ≡ record { code = n; request = plain NoShape }
@@ -79,7 +77,7 @@ module _ (c : Condition) (h : Heard) (n : ℕ) where
   -- the condition after an answer: as it was, or by the request's effect
   module _ (line : List ℕ) (heard : heardOutcome c h n ≡ stepOf c line n) (code : ℕ) (coded : code ≡ heardOutcome c h n .code) where
     pub answer-kept : (code ≡ 0 → ⊥) → c ≡ stepOf c line n .after
-    answer-kept f = sym (refusals-change-nothing c line n (λ e. f (coded ∙ ap (λ (o : Outcome). o .code) heard ∙ e)))
+    answer-kept f = sym (right c line n .unchanged (λ e. f (coded ∙ ap (λ (o : Outcome). o .code) heard ∙ e)))
 
     pub answer-effect : code ≡ 0 → (d : Condition) → d ≡ effectOf c (h .request) → d ≡ stepOf c line n .after
     answer-effect e d f =

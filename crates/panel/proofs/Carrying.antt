@@ -18,7 +18,7 @@ use Rattle.request.specs.Carried.{carriedShip, carriedLoad, carriedColumn, carr
 use Rattle.request.proofs.Kept.{same-ship, same-load, same-column, same-hold, kept-ship, kept-load, kept-column}
 use Rattle.request.proofs.Tidy.{kept-hold}
 use Rattle.condition.specs.declared.Condition.{Condition}
-use Rattle.panel.specs.Operations.{shipOperation, loadOperation, columnOperation, holdOperation}
+use Rattle.operations.specs.Operations.{shipOperation, loadOperation, columnOperation, holdOperation}
 use Rattle.panel.specs.Step.{outcomeBy, outcomeOf}
 
 module _ (c : Condition) where

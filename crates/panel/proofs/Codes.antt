@@ -1,49 +1,31 @@
--- The codes of each operation (document 01), and that every one but 00 leaves the condition as it was.
+-- The codes of each request (document 01) and of every line, and that every one but 00 leaves the condition as it was.
 use mathlib.Core.Path.{_≡_, refl}
-use mathlib.Core.Bool.{Bool, true, false, cond, _&&_, _||_}
+use mathlib.Core.Bool.{true}
 use mathlib.Core.List.{List, [], _∷_}
 use Prim.Native.Nat.{ℕ}
-use native.Mathlib.Omega.{arith}
-use lib.Dec.{eqb}
-use borrow.Author.Tests.{eqb-true}
-use Rattle.whole.specs.Lists.{all}
-use Rattle.whole.proofs.Lists.{and-true}
+use lib.Dec.{ltb}
+use Rattle.whole.specs.Lists.{all, isOneOf}
+use Rattle.whole.proofs.Lists.{among}
 use Rattle.record.specs.declared.Column.{Column}
-use Rattle.columns.specs.declared.Added.{Added}
-use Rattle.columns.specs.declared.Added.the-variants.{Taken, Limits, Full, NotAbove}
 use Rattle.record.specs.declared.Hold.{Hold}
-use Rattle.limits.specs.Limits.{shipLimits, loadLimits, holdLimits, placeLimits}
-use Rattle.record.specs.Held.{held}
-use Rattle.columns.specs.Columns.{columnAnswer}
-use Rattle.grain.specs.Sum.{holdFits}
 use Rattle.stability.specs.declared.Judgement.{Judgement}
 use Rattle.stability.specs.declared.Judgement.the-variants.{Passed, ShortOfGm, ShortAtHeel, ShortBeyond, ShortOfArea}
-use Rattle.stability.specs.declared.Verdict.{Verdict}
 use Rattle.stability.specs.Verdict.{judgementCode, verdictOf}
+use Rattle.text.specs.declared.Reading.{Reading}
+use Rattle.text.specs.declared.Reading.the-variants.{Sound, TooLong, BadByte, NotOneForm, BadNumber}
+use Rattle.text.specs.Token.{tokens}
+use Rattle.text.specs.Line.{readingOf}
 use Rattle.request.specs.declared.Kind.{Kind}
 use Rattle.request.specs.declared.Kind.the-variants.{ShipLine, ColumnLine, LoadLine, HoldLine, DropLine, JudgeLine, ClearLine, NoShape}
+use Rattle.request.specs.declared.Request.{Request}
+use Rattle.request.specs.Shape.{requestOf}
 use Rattle.condition.specs.declared.Condition.{Condition}
-use Rattle.panel.specs.declared.Judged.{Judged}
-use Rattle.panel.specs.declared.Judged.the-variants.{Refused, Given}
-use Rattle.condition.specs.Condition.{holdAt, isHeld}
-use Rattle.panel.specs.Operations.{taken, shipOperation, loadOperation, columnChange, columnOperation, holdOperation, dropOperation}
-use Rattle.panel.specs.Judge.{basisAt}
-use Rattle.panel.specs.Step.{Outcome, answered, verdictGiven, outcomeBy}
-use Rattle.panel.specs.Demands.{isOneOf}
-use Rattle.panel.proofs.Shown.{refusals, judged-by}
-
--- a number of one list is of another that has all of it
-or-true : (x y r : Bool) → (x ≡ true → r ≡ true) → (y ≡ true → r ≡ true) → (x || y) ≡ true → r ≡ true
-or-true true y r f g e = f refl
-or-true false y r f g e = g e
-
-pub among : (ms ns : List ℕ) (n : ℕ) → all (isOneOf ns) ms ≡ true → isOneOf ms n ≡ true → isOneOf ns n ≡ true
-unfolding isOneOf all
-among [] ns n a e =
-    let z : _≡_ {A = ℕ} 0 1 = cc in absurd (omega arith)
-among (m ∷ ms) ns n a e =
-    let t = and-true (isOneOf ns m) (all (isOneOf ns) ms) a in
-    or-true (eqb n m) (isOneOf ms n) (isOneOf ns n) (λ q. rw (eqb-true n m q) (t .0)) (among ms ns n (t .1)) e
+use Rattle.judging.specs.declared.Judged.{Judged}
+use Rattle.judging.specs.Judge.{basisAt}
+use Rattle.judging.proofs.Shown.{refusals, judged-by}
+use Rattle.operations.specs.Operations.{Change}
+use Rattle.operations.proofs.Right.{Right, right-taken, right-same, right-if, ship-right, load-right, column-right, hold-right, drop-right}
+use Rattle.panel.specs.Step.{Outcome, verdictGiven, outcomeBy, outcomeOf, outcomeAfter, stepOf}
 
 -- the codes of each request
 abbrev pub codesOf : Kind → List ℕ
@@ -56,31 +38,27 @@ codesOf JudgeLine = 0 ∷ 30 ∷ 31 ∷ 32 ∷ 33 ∷ 34 ∷ 40 ∷ 41 ∷ 42 �
 codesOf ClearLine = 0 ∷ []
 codesOf NoShape = 14 ∷ []
 
--- an outcome has one of these codes, and unless that is 00 the condition is as it was
-pub record Right (codes : List ℕ) (c : Condition) (o : Outcome) : Type 0 where
-  pub listed : isOneOf codes (o .code) ≡ true
-  pub unchanged : (o .code ≡ 0 → ⊥) → o .after ≡ c
+-- and of every line
+abbrev every : List ℕ
+every =
+    0 ∷ 10 ∷ 11 ∷ 12 ∷ 13 ∷ 14 ∷ 15 ∷ 20 ∷ 21 ∷ 22 ∷ 23 ∷ 24 ∷ 30 ∷ 31 ∷ 32 ∷ 33 ∷ 34 ∷ 40 ∷ 41 ∷ 42 ∷ 43 ∷ []
 
-module _ {codes : List ℕ} (c : Condition) where
-  -- a line that is taken; one that is not; and either, by a test
-  right-taken : (a : Condition) → isOneOf codes 0 ≡ true → Right codes c (answered (taken a))
-  right-taken a e = record { listed = e; unchanged = λ f. absurd (f refl) }
+codes-listed : (k : Kind) → all (isOneOf every) (codesOf k) ≡ true
+unfolding all isOneOf
+codes-listed (ShipLine s) = refl
+codes-listed ColumnLine = refl
+codes-listed (LoadLine l) = refl
+codes-listed (HoldLine n) = refl
+codes-listed (DropLine n) = refl
+codes-listed JudgeLine = refl
+codes-listed ClearLine = refl
+codes-listed NoShape = refl
 
-  pub right-same : (code : ℕ) (reply : List ℕ) → isOneOf codes code ≡ true → Right codes c (record { code = code; reply = reply; after = c })
-  right-same code reply e = record { listed = e; unchanged = λ f. refl }
-
-  pub right-if : {A : Type 0} (f : A → Outcome) (x : Bool) {a b : A} → Right codes c (f a) → Right codes c (f b) → Right codes c (f (cond x a b))
-  right-if f true p q = p
-  right-if f false p q = q
+-- what an outcome does to the condition
+abbrev pub changed : Outcome → Change
+changed o = record { code = o .code; after = o .after }
 
 module _ (c : Condition) where
-  right-change : (k : Column) (a : Added) → Right (codesOf ColumnLine) c (answered (columnChange c k a))
-  unfolding isOneOf
-  right-change k Taken = right-taken c _ refl
-  right-change k Limits = right-same c _ _ refl
-  right-change k Full = right-same c _ _ refl
-  right-change k NotAbove = right-same c _ _ refl
-
   judgement-listed : (j : Judgement) → isOneOf (codesOf JudgeLine) (judgementCode j) ≡ true
   unfolding isOneOf
   judgement-listed Passed = refl
@@ -89,25 +67,39 @@ module _ (c : Condition) where
   judgement-listed ShortBeyond = refl
   judgement-listed ShortOfArea = refl
 
-  right-verdict : (v : Verdict) → Right (codesOf JudgeLine) c (verdictGiven c (Given v))
-  right-verdict v = right-same c _ _ (judgement-listed (v .judgement))
-
-  right-refusal : (n : ℕ) → isOneOf refusals n ≡ true → Right (codesOf JudgeLine) c (verdictGiven c (Refused n))
+  right-refusal : (n : ℕ) → isOneOf refusals n ≡ true → isOneOf (codesOf JudgeLine) n ≡ true
   unfolding isOneOf all
-  right-refusal n e = right-same c _ _ (among refusals (codesOf JudgeLine) n refl e)
+  right-refusal n e = among refusals (codesOf JudgeLine) n refl e
 
-  pub right-by : (k : Kind) (h : Hold) (col : Column) → Right (codesOf k) c (outcomeBy c k h col)
-  unfolding isOneOf shipOperation columnOperation loadOperation holdOperation dropOperation
-  right-by (ShipLine s) h col = right-if c answered (shipLimits s) (right-taken c _ refl) (right-same c _ _ refl)
-  right-by ColumnLine h col = right-change col (columnAnswer (held (c .columns)) col)
-  right-by (LoadLine l) h col = right-if c answered (loadLimits l) (right-taken c _ refl) (right-same c _ _ refl)
-  right-by (HoldLine n) h col =
-      right-if c answered (placeLimits n && holdLimits h)
-      (right-if c answered (holdFits h) (right-taken c _ refl) (right-same c _ _ refl)) (right-same c _ _ refl)
-  right-by (DropLine n) h col =
-      right-if c answered (placeLimits n)
-      (right-if c answered (isHeld (holdAt c n)) (right-taken c _ refl) (right-same c _ _ refl)) (right-same c _ _ refl)
+  pub right-by : (k : Kind) (h : Hold) (col : Column) → Right (codesOf k) c (changed (outcomeBy c k h col))
+  unfolding isOneOf
+  right-by (ShipLine s) h col = ship-right c s
+  right-by ColumnLine h col = column-right c col
+  right-by (LoadLine l) h col = load-right c l
+  right-by (HoldLine n) h col = hold-right c n h
+  right-by (DropLine n) h col = drop-right c n
   right-by JudgeLine h col =
-      judged-by c (λ (j : Judged). Right (codesOf JudgeLine) c (verdictGiven c j)) right-refusal (λ i. right-verdict (verdictOf (c .ship) (basisAt c i)))
+      judged-by c (λ (j : Judged). Right (codesOf JudgeLine) c (changed (verdictGiven c j)))
+      (λ n e. right-same c n (right-refusal n e))
+      (λ i. right-same c _ (judgement-listed (verdictOf (c .ship) (basisAt c i) .judgement)))
   right-by ClearLine h col = right-taken c _ refl
-  right-by NoShape h col = right-same c _ _ refl
+  right-by NoShape h col = right-same c _ refl
+
+  right-request : (r : Request) → Right every c (changed (outcomeOf c r))
+  unfolding outcomeOf
+  right-request r =
+      let t = right-by (r .kind) (r .hold) (r .column) in
+      record { listed = among (codesOf (r .kind)) every _ (codes-listed (r .kind)) (t .listed); unchanged = t .unchanged }
+
+  module _ (line : List ℕ) where
+    right-after : (r : Reading) → Right every c (changed (outcomeAfter c line r))
+    unfolding isOneOf
+    right-after Sound = right-request (requestOf (tokens line))
+    right-after TooLong = right-same c 10 refl
+    right-after BadByte = right-same c 11 refl
+    right-after NotOneForm = right-same c 12 refl
+    right-after BadNumber = right-same c 13 refl
+
+    pub right : (lent : ℕ) → Right every c (changed (stepOf c line lent))
+    unfolding stepOf isOneOf
+    right lent = right-if c changed (ltb lent 96) (right-same c 15 refl) (right-after (readingOf line))

@@ -22,10 +22,10 @@ use Rattle.condition.specs.declared.Condition.{Condition}
 use Rattle.condition.specs.Condition.{empty}
 use Rattle.panel.specs.declared.Replied.{Replied}
 use Rattle.panel.specs.declared.Stepped.{Stepped}
-use Rattle.panel.specs.declared.Judged.{Judged}
-use Rattle.panel.specs.declared.Judged.the-variants.{Refused, Given}
-use Rattle.panel.specs.Judge.{judgedOf}
-use Rattle.panel.specs.Operations.{Change, taken, refusedWith, shipOperation, loadOperation, columnOperation, holdOperation, dropOperation}
+use Rattle.judging.specs.declared.Judged.{Judged}
+use Rattle.judging.specs.declared.Judged.the-variants.{Refused, Given}
+use Rattle.judging.specs.Judge.{judgedOf}
+use Rattle.operations.specs.Operations.{Change, taken, refusedWith, shipOperation, loadOperation, columnOperation, holdOperation, dropOperation}
 
 pub record Outcome : Type 0 where
   pub code : ℕ

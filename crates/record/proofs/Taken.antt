@@ -8,6 +8,8 @@ use Rattle.record.specs.declared.Cell.{Cell}
 use Rattle.record.specs.declared.Cell.the-variants.{Wing}
 use Rattle.record.specs.declared.Slot.{Slot}
 use Rattle.record.specs.declared.Part.{Part}
+use Rattle.record.specs.declared.Mode.the-variants.{Trimmed}
+use Rattle.record.specs.declared.Hold.{Hold}
 use Rattle.record.specs.declared.Column.{Column}
 use Rattle.record.specs.Held.{cellsOf}
 
@@ -20,6 +22,9 @@ pastSlot = record { cell = pastCell }
 
 abbrev pub pastPart : Part
 pastPart = record { length = 0; breadth = 0; void = 0; grain = 0; count = 0; cells = [] }
+
+abbrev pub pastHold : Hold
+pastHold = record { head = record { mode = Trimmed; factor = 0; count = 0 }; parts = [] }
 
 abbrev pub pastColumn : Column
 pastColumn = record { d = 0; km = 0; kn = [] }

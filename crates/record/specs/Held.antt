@@ -1,13 +1,14 @@
 -- What a record holds: the used places of its arrays, and what cells of every kind have.
 use mathlib.Core.List.{List, map}
-use Prim.Native.Nat.{ℕ}
-use lib.ListN.{take}
+use Prim.Native.Nat.{ℕ, _-_}
+use lib.ListN.{length, getD, take}
 use Rattle.record.specs.declared.Cell.{Cell}
 use Rattle.record.specs.declared.Cell.the-variants.{Wing, Hatch, Void}
 use Rattle.record.specs.declared.Part.{Part}
 use Rattle.record.specs.declared.Hold.{Hold}
 use Rattle.record.specs.declared.Column.{Column}
 use Rattle.record.specs.declared.Columns.{Columns}
+use Rattle.record.specs.Filler.{noColumn}
 
 -- WIDTH, of every kind of cell
 abbrev pub cellWidth : Cell → ℕ
@@ -32,3 +33,7 @@ partsOf h = take (h .head .count) (h .parts)
 -- the columns held, in their order
 abbrev pub held : Columns → List Column
 held cs = take (cs .count) (cs .places)
+
+-- D of the last of them
+abbrev pub lastD : List Column → ℕ
+lastD ks = getD ks (length ks - 1) noColumn .d

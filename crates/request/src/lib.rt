@@ -76,7 +76,7 @@ pub struct Form {
 
 // ---- a request without hold or column
 
-fn plain(kind: Kind) -> Request
+pub fn plain(kind: Kind) -> Request
     ensures { λ r. ⌜ r ≡ Shape·plain kind ⌝ }
 {
     Request {

@@ -20,6 +20,7 @@ use Rattle.record.specs.declared.Column.{Column}
 use Rattle.record.specs.declared.Load.{Load}
 use Rattle.limits.specs.Limits.{columnLimits}
 use Rattle.columns.specs.Columns.{inOrder}
+use Rattle.record.specs.Held.{lastD}
 use Rattle.record.specs.Filler.{noColumn}
 use Rattle.record.specs.declared.Ship.{Ship}
 use Rattle.stability.specs.declared.Basis.{Basis}
@@ -84,9 +85,6 @@ module _ (b c : Basis) (pb : 0 < span b) (pc : 0 < span c) (shared : b .high ≡
   same-verdict s = rw (same-diffs, same-gm) refl
 
 -- ---- 33: below the first column or above the last
-abbrev pub lastD : List Column → ℕ
-lastD ks = getD ks (length ks - 1) noColumn .d
-
 last-more : (a b : Column) (ks : List Column) → lastD (a ∷ b ∷ ks) ≡ lastD (b ∷ ks)
 last-more a b ks = ap (λ n. getD (a ∷ b ∷ ks) n noColumn .d) (less (length ks))
   where

@@ -9,7 +9,9 @@ use Rattle.panel.proofs.answer.Tie as tie
 
 returns : tie.Need-returns
 unfolding over
-returns c = rw (heard-none (c .before .before .args .c) (c .before .before .args .h) (length (c .before .before .args .out .now)) (search needs)) (record { coded = refl; long = refl; written = refl })
+returns c =
+    let k = c .before .before .args in
+    rw (heard-none (k .c) (k .h) (length (k .out .now)) (search needs)) (record { coded = refl; long = refl; written = refl })
 
 answer-with-requires : tie.Need-answer-with-requires
 answer-with-requires c κs = search needs
@@ -18,7 +20,9 @@ same-length : tie.Need-same-length
 same-length c = search needs
 
 returns-2 : tie.Need-returns-2
-returns-2 c = rw (heard-refused (c .before .before .before .before .before .before .before .args .c) (c .before .before .before .before .before .before .before .args .h) (length (c .before .before .before .before .before .before .before .args .out .now)) (search needs) (c .before .before .before .before .if2 .taken)) (c .before .before .answer-with .ensures)
+returns-2 c =
+    let k = c .before .before .before .before .before .before .before .args in
+    rw (heard-refused (k .c) (k .h) (length (k .out .now)) (search needs) (c .before .before .before .before .if2 .taken)) (c .before .before .answer-with .ensures)
 
 reply-to-requires : tie.Need-reply-to-requires
 reply-to-requires c κs = search needs
@@ -27,7 +31,9 @@ same-length-2 : tie.Need-same-length-2
 same-length-2 c = search needs
 
 returns-3 : tie.Need-returns-3
-returns-3 c = rw (heard-request (c .before .before .before .before .before .before .before .before .args .c) (c .before .before .before .before .before .before .before .before .args .h) (length (c .before .before .before .before .before .before .before .before .args .out .now)) (search needs) (c .before .before .before .before .before .if2 .left)) (c .before .before .reply-to .ensures)
+returns-3 c =
+    let k = c .before .before .before .before .before .before .before .before .args in
+    rw (heard-request (k .c) (k .h) (length (k .out .now)) (search needs) (c .before .before .before .before .before .if2 .left)) (c .before .before .reply-to .ensures)
 
 pub answer-spec : {M : Type 1} → statement M
 answer-spec =

@@ -3,7 +3,7 @@ use mir.Syntax.{w64}
 use mir.Val.{SFits}
 use mir.Facts.{toZ-ofZ}
 use mathlib.Core.Path.{refl, sym, _∙_}
-use Rattle.panel.proofs.Shown.{upper-shown}
+use Rattle.judging.proofs.Shown.{upper-shown}
 use borrow.Author.Needs.{needs}
 use Rattle.panel.proofs.give_verdict.Statement.{statement}
 use Rattle.panel.proofs.give_verdict.Tie as tie
@@ -24,13 +24,18 @@ judgement-code-requires : tie.Need-judgement-code-requires
 judgement-code-requires c κs = search needs
 
 verdict-requires : tie.Need-verdict-requires
-verdict-requires c κs = (search needs, upper-shown (c .before .before .before .before .before .before .before .before .before .args .c) (c .before .before .before .before .before .j2 .given .0 .0) (sym (c .before .before .before .before .before .before .before .judge .ensures) ∙ c .before .before .before .before .before .j2 .given .1))
+verdict-requires c κs =
+    let k = c .before .before .before .before .before in
+    (search needs, upper-shown (k .before .before .before .before .args .c) (k .j2 .given .0 .0) (sym (k .before .before .judge .ensures) ∙ k .j2 .given .1))
 
 same-length : tie.Need-same-length
 same-length c = search needs
 
 returns : tie.Need-returns
-returns c = rw (sym (c .before .before .before .before .before .before .before .judge .ensures) ∙ c .before .before .before .before .before .j .given .1) (record { coded = refl; long = c .before .before .refusal .ensures .0; written = c .before .before .refusal .ensures .1 })
+returns c =
+    let k = c .before .before .before .before .before in
+    rw (sym (k .before .before .judge .ensures) ∙ k .j .given .1)
+    (record { coded = refl; long = c .before .before .refusal .ensures .0; written = c .before .before .refusal .ensures .1 })
 
 same-length-2 : tie.Need-same-length-2
 same-length-2 c = search needs
@@ -40,11 +45,14 @@ returns-2 c =
     let v = c .before .before .before .before .before .before .before .before .j2 .given .0 .0 in
     let f1 : SFits w64 (v .gm) = search needs in
     let f2 : SFits w64 (v .diff) = search needs in
-    rw (sym (c .before .before .before .before .before .before .before .before .before .before .judge .ensures) ∙ c .before .before .before .before .before .before .before .before .j2 .given .1)
+    let m = c .before .before .before .before .before .before in
+    let e = m .judgement-code .ensures in
+    let k = m .before .before in
+    rw (sym (k .before .before .judge .ensures) ∙ k .j2 .given .1)
     (record {
-      coded = c .before .before .before .before .before .before .judgement-code .ensures;
-      long = c .before .before .verdict .ensures .0 ∙ rw (c .before .before .before .before .before .before .judgement-code .ensures, toZ-ofZ {w = w64} {z = v .gm} f1, toZ-ofZ {w = w64} {z = v .diff} f2);
-      written = c .before .before .verdict .ensures .1 ∙ rw (c .before .before .before .before .before .before .judgement-code .ensures, toZ-ofZ {w = w64} {z = v .gm} f1, toZ-ofZ {w = w64} {z = v .diff} f2);
+      coded = e;
+      long = c .before .before .verdict .ensures .0 ∙ rw (e, toZ-ofZ {w = w64} {z = v .gm} f1, toZ-ofZ {w = w64} {z = v .diff} f2);
+      written = c .before .before .verdict .ensures .1 ∙ rw (e, toZ-ofZ {w = w64} {z = v .gm} f1, toZ-ofZ {w = w64} {z = v .diff} f2);
     })
 
 pub give-verdict-spec : {M : Type 1} → statement M

@@ -72,7 +72,9 @@ same-length c = search needs
 
 returns : tie.Need-returns
 unfolding outcomeOf
-returns c = rw (c .before .before .before .before .before .before .kind .given .1, ← c .before .before .before .before .ship-code .ensures (c .before .before .before .before .before .before .before .before .before .before .before .args .c)) (c .before .before .answer-with .ensures)
+returns c =
+    let k = c .before .before .before .before .before .before in
+    rw (k .kind .given .1, ← c .before .before .before .before .ship-code .ensures (k .before .before .before .before .before .args .c)) (c .before .before .answer-with .ensures)
 
 same-length-2 : tie.Need-same-length-2
 same-length-2 c = search needs
@@ -86,14 +88,18 @@ same-length-3 c = search needs
 
 returns-3 : tie.Need-returns-3
 unfolding outcomeOf
-returns-3 c = rw (c .before .before .before .before .before .before .kind2 .given .1, ← c .before .before .before .before .load-code .ensures (c .before .before .before .before .before .before .before .before .before .before .before .args .c)) (c .before .before .answer-with3 .ensures)
+returns-3 c =
+    let k = c .before .before .before .before .before .before in
+    rw (k .kind2 .given .1, ← c .before .before .before .before .load-code .ensures (k .before .before .before .before .before .args .c)) (c .before .before .answer-with3 .ensures)
 
 same-length-4 : tie.Need-same-length-4
 same-length-4 c = search needs
 
 returns-4 : tie.Need-returns-4
 unfolding outcomeOf
-returns-4 c = rw (c .before .before .before .before .before .before .kind3 .given .1, ← c .before .before .before .before .hold-code .ensures (c .before .before .before .before .before .before .before .before .before .before .before .args .c)) (c .before .before .answer-with4 .ensures)
+returns-4 c =
+    let k = c .before .before .before .before .before .before in
+    rw (k .kind3 .given .1, ← c .before .before .before .before .hold-code .ensures (k .before .before .before .before .before .args .c)) (c .before .before .answer-with4 .ensures)
 
 same-length-5 : tie.Need-same-length-5
 same-length-5 c = search needs

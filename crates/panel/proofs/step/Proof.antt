@@ -17,8 +17,12 @@ same-length c = search needs
 returns : tie.Need-returns
 returns c =
     let a = c .before .before .before .answer .ensures in
-    let e = heard-as (c .before .before .before .before .before .before .before .before .args .c) (c .before .before .before .before .before .before .before .before .args .line .now) (length (c .before .before .before .before .before .before .before .before .args .out .now)) (c .before .before .before .before .before .hear .result) (c .before .before .before .before .before .hear .ensures) in
-    rw (← e) (record { condition = rw e (answer-kept (c .before .before .before .before .before .before .before .before .args .c) (c .before .before .before .before .before .hear .result) (length (c .before .before .before .before .before .before .before .before .args .out .now)) (c .before .before .before .before .before .before .before .before .args .line .now) e (c .before .before .before .answer .result .code) (a .coded) (c .if1 .taken)); coded = a .coded; long = a .long; written = a .written })
+    let m = c .before .before .before .before .before in
+    let k = m .before .before .before .args in
+    let n = length (k .out .now) in
+    let e = heard-as (k .c) (k .line .now) n (m .hear .result) (m .hear .ensures) in
+    let kept = answer-kept (k .c) (m .hear .result) n (k .line .now) e (c .before .before .before .answer .result .code) (a .coded) (c .if1 .taken) in
+    rw (← e) (record { condition = rw e kept; coded = a .coded; long = a .long; written = a .written })
 
 effect-requires : tie.Need-effect-requires
 effect-requires c κs = search needs
@@ -29,13 +33,12 @@ same-length-2 c = search needs
 returns-2 : tie.Need-returns-2
 returns-2 c =
     let a = c .before .before .before .before .before .answer .ensures in
-    let e = heard-as (c .before .before .before .before .before .before .before .before .before .before .args .c) (c .before .before .before .before .before .before .before .before .before .before .args .line .now) (length (c .before .before .before .before .before .before .before .before .before .before .args .out .now)) (c .before .before .before .before .before .before .before .hear .result) (c .before .before .before .before .before .before .before .hear .ensures) in
-    rw (← e) (record {
-      condition = rw e (answer-effect (c .before .before .before .before .before .before .before .before .before .before .args .c) (c .before .before .before .before .before .before .before .hear .result) (length (c .before .before .before .before .before .before .before .before .before .before .args .out .now)) (c .before .before .before .before .before .before .before .before .before .before .args .line .now) e (c .before .before .before .before .before .answer .result .code) (a .coded) (c .before .before .if1 .left) (c .effect .result) (c .effect .ensures));
-      coded = a .coded;
-      long = a .long;
-      written = a .written;
-    })
+    let m = c .before .before .before .before .before .before .before in
+    let k = m .before .before .before .args in
+    let n = length (k .out .now) in
+    let e = heard-as (k .c) (k .line .now) n (m .hear .result) (m .hear .ensures) in
+    let done = answer-effect (k .c) (m .hear .result) n (k .line .now) e (c .before .before .before .before .before .answer .result .code) (a .coded) (c .before .before .if1 .left) (c .effect .result) (c .effect .ensures) in
+    rw (← e) (record { condition = rw e done; coded = a .coded; long = a .long; written = a .written })
 
 pub step-spec : {M : Type 1} → statement M
 step-spec =

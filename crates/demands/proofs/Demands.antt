@@ -1,0 +1,36 @@
+-- The three demands, of the step of one line and of its repetition over any list of lines.
+use Rattle.text.proofs.Decimals.{number-is}
+use Rattle.reply.proofs.Shown.{at-front}
+use Rattle.condition.proofs.Empty.{starts-empty}
+use Rattle.stability.proofs.Covers.{every-angle}
+use Rattle.demands.specs.Demands.{Demands}
+use Rattle.demands.proofs.ByOperation.{codes-by-operation}
+use Rattle.demands.proofs.Demand1.{codes-are-printed, refusals-change-nothing, clear-starts-anew}
+use Rattle.demands.proofs.Stored.{records-are-stored, replies-show-the-code}
+use Rattle.demands.proofs.Spaces.{spaces-are-free}
+use Rattle.demands.proofs.Demand2.{weight-is-total}
+use Rattle.demands.proofs.Demand3.{verdicts-hold}
+use Rattle.demands.proofs.Reached.{reached-are-within, ranges-are-within}
+use Rattle.demands.proofs.Runs.{first-run, second-run}
+
+pub demands : Demands
+demands =
+    record {
+      codesArePrinted = codes-are-printed;
+      codesByOperation = codes-by-operation;
+      refusalsChangeNothing = refusals-change-nothing;
+      recordsAreStored = records-are-stored;
+      repliesShowTheCode = replies-show-the-code;
+      writtenAtFront = at-front;
+      startsEmpty = starts-empty;
+      clearStartsAnew = clear-starts-anew;
+      firstRun = first-run;
+      secondRun = second-run;
+      spacesAreFree = spaces-are-free;
+      numbersAreRead = number-is;
+      weightIsTotal = weight-is-total;
+      verdictsHold = verdicts-hold;
+      everyAngle = every-angle;
+      reachedAreWithin = reached-are-within;
+      rangesAreWithin = ranges-are-within;
+    }

@@ -1,0 +1,12 @@
+pub mod Asked
+pub mod Demand1
+pub mod ByOperation
+pub mod Stored
+pub mod Spaces
+pub mod Sequence
+pub mod Within
+pub mod Reached
+pub mod Demand2
+pub mod Demand3
+pub mod Runs
+pub mod Demands

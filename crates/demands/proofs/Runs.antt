@@ -1,0 +1,35 @@
+-- The worked runs, by computing from the definitions.
+use mathlib.Core.Path.{refl}
+use Rattle.whole.specs.Lists.{within, all, sumOf, tabulate}
+use Rattle.whole.specs.Root.{rootDigits}
+use Rattle.columns.specs.Columns.{isAbove, columnAnswer, inOrder}
+use Rattle.record.specs.Filler.{padded}
+use Rattle.limits.specs.Limits.{shipLimits, loadLimits, columnLimits, cellLimits, sectionLimits, slackLimits, holdLimits}
+use Rattle.grain.specs.Depth.{standardDepth, wingDepth, cellDepth, cellArea}
+use Rattle.grain.specs.Section.{mostHeld, keptFrom, fitsFrom, firstMoment, highMoment, oldTwice, sectionMoment}
+use Rattle.grain.specs.Slack.{slackMoment}
+use Rattle.grain.specs.Sum.{partMoment, holdMoment, weightMoment, holdFits, totalWeight}
+use Rattle.stability.specs.Angles.{angle, sine}
+use Rattle.stability.specs.Area.{areaOver}
+use Rattle.stability.specs.Arms.{gm, knArm, kgArm, rightingArm, heelingArm, diff}
+use Rattle.columns.specs.Search.{columnsAround}
+use Rattle.stability.specs.Verdict.{anglesBelow, diffAt, peak, failsAmong, judgedBy, verdictOf}
+use Rattle.text.specs.Token.{tokens, same, valueFrom, numberOf}
+use Rattle.text.specs.Line.{walked, readingOf}
+use Rattle.items.specs.Grammar.{open?, close?, run?, head?, number?, numbers?, lastNumbers?, items?}
+use Rattle.parts.specs.Shape.{cellNamed, cell?, section?, slack?, body?, part?}
+use Rattle.request.specs.Shape.{ruleNamed, ship?, column?, load?, modeNamed, parts?, hold?, drop?, bare?, formWord, form?, requestOf}
+use Rattle.reply.specs.Replies.{verdictReply}
+use Rattle.reply.specs.Written.{digits, figure}
+use Rattle.judging.specs.Judge.{judgedOf}
+use Rattle.operations.specs.Operations.{shipOperation, loadOperation, columnOperation, holdOperation, dropOperation}
+use Rattle.panel.specs.Step.{outcomeOf, stepOf, conditionAfter, outcomes}
+use Rattle.demands.specs.Runs.{FirstRun, SecondRun}
+
+pub first-run : FirstRun
+unfolding within all sumOf tabulate rootDigits isAbove columnAnswer inOrder padded shipLimits loadLimits columnLimits cellLimits sectionLimits slackLimits holdLimits cellDepth cellArea mostHeld keptFrom fitsFrom firstMoment highMoment oldTwice sectionMoment slackMoment partMoment holdMoment weightMoment holdFits totalWeight angle sine areaOver columnsAround gm knArm kgArm rightingArm heelingArm diff anglesBelow diffAt peak failsAmong judgedBy verdictOf tokens same valueFrom numberOf walked readingOf open? close? run? head? number? numbers? lastNumbers? items? ruleNamed ship? column? load? cellNamed cell? section? slack? body? part? modeNamed parts? hold? drop? bare? formWord form? requestOf verdictReply digits figure judgedOf shipOperation loadOperation columnOperation holdOperation dropOperation outcomeOf stepOf outcomes conditionAfter
+first-run = (refl, refl)
+
+pub second-run : SecondRun
+unfolding within all sumOf tabulate rootDigits isAbove columnAnswer inOrder padded shipLimits loadLimits columnLimits cellLimits sectionLimits slackLimits holdLimits standardDepth wingDepth cellDepth cellArea mostHeld keptFrom fitsFrom firstMoment highMoment oldTwice sectionMoment slackMoment partMoment holdMoment weightMoment holdFits totalWeight angle sine areaOver columnsAround gm knArm kgArm rightingArm heelingArm diff anglesBelow diffAt peak failsAmong judgedBy verdictOf tokens same valueFrom numberOf walked readingOf open? close? run? head? number? numbers? lastNumbers? items? ruleNamed ship? column? load? cellNamed cell? section? slack? body? part? modeNamed parts? hold? drop? bare? formWord form? requestOf verdictReply digits figure judgedOf shipOperation loadOperation columnOperation holdOperation dropOperation outcomeOf stepOf outcomes
+second-run = refl

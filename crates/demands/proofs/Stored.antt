@@ -1,0 +1,112 @@
+-- Demand 1: what a line that is taken brings is stored, and its reply shows the code.
+use mathlib.Core.Path.{_≡_, refl, sym, ap, _∙_}
+use mathlib.Core.Bool.{true}
+use mathlib.Core.List.{List}
+use Prim.Native.Nat.{ℕ, _≤_}
+use native.Mathlib.Omega.{arith}
+use Rattle.whole.specs.Lists.{isOneOf}
+use Rattle.record.specs.declared.Column.{Column}
+use Rattle.record.specs.declared.Hold.{Hold}
+use Rattle.stability.specs.declared.Judgement.{Judgement}
+use Rattle.stability.specs.declared.Judgement.the-variants.{Passed, ShortOfGm, ShortAtHeel, ShortBeyond, ShortOfArea}
+use Rattle.stability.specs.Verdict.{judgementCode, verdictOf}
+use Rattle.text.specs.declared.Reading.{Reading}
+use Rattle.text.specs.declared.Reading.the-variants.{Sound, TooLong, BadByte, NotOneForm, BadNumber}
+use Rattle.text.specs.Line.{readingOf}
+use Rattle.request.specs.declared.Kind.{Kind}
+use Rattle.request.specs.declared.Kind.the-variants.{ShipLine, ColumnLine, LoadLine, HoldLine, DropLine, JudgeLine, ClearLine, NoShape}
+use Rattle.reply.specs.Replies.{answerReply}
+use Rattle.reply.specs.Shown.{RefusalShown}
+use Rattle.reply.proofs.Shown.{answer-shown, refusal-shown}
+use Rattle.condition.specs.declared.Condition.{Condition}
+use Rattle.condition.proofs.Empty.{starts-empty}
+use Rattle.judging.specs.declared.Judged.{Judged}
+use Rattle.judging.specs.Judge.{basisAt, judgedOf}
+use Rattle.judging.proofs.Shown.{refusals, judged-by}
+use Rattle.operations.proofs.Stores.{ship-stored, load-stored, column-stored, hold-stored, hold-dropped}
+use Rattle.panel.specs.Step.{Outcome, verdictGiven, outcomeBy, stepOf}
+use Rattle.panel.proofs.Effects.{judge-same}
+use Rattle.demands.specs.Codes.{request, Asks}
+use Rattle.demands.specs.Demands.{Stores, RecordsAreStored, RepliesShowTheCode}
+use Rattle.demands.proofs.Asked.{none-applies, short, at-reading, hears, asked, taken-as}
+
+module _ (c : Condition) (line : List ℕ) (lent : ℕ) where
+  abbrev hold : Hold
+  hold = request line .hold
+
+  abbrev column : Column
+  column = request line .column
+
+  -- ---- what is stored
+  module _ (zero : stepOf c line lent .code ≡ 0) where
+    module _ (k : Kind) (e : request line .kind ≡ k) where
+      done : stepOf c line lent ≡ outcomeBy c k hold column
+      done = taken-as c line lent k e zero
+
+      own : outcomeBy c k hold column .code ≡ 0
+      own = ap (λ (o : Outcome). o .code) (sym done) ∙ zero
+
+      after : stepOf c line lent .after ≡ outcomeBy c k hold column .after
+      after = ap (λ (o : Outcome). o .after) done
+
+    stores : Stores c line (stepOf c line lent .after)
+    stores =
+        record {
+          ship = λ s e. rw (after (ShipLine s) e) (ship-stored c s (own (ShipLine s) e));
+          load = λ l e. rw (after (LoadLine l) e) (load-stored c l (own (LoadLine l) e));
+          column = λ e. rw (after ColumnLine e) (column-stored c column (own ColumnLine e));
+          hold = λ n e. rw (after (HoldLine n) e) (hold-stored c n hold (own (HoldLine n) e));
+          drop = λ n e. rw (after (DropLine n) e) (hold-dropped c n (own (DropLine n) e));
+          judge = λ e. after JudgeLine e ∙ judge-same c (judgedOf c);
+          clear = λ e. rw (after ClearLine e) starts-empty;
+        }
+
+  -- ---- the reply of every line but a judge line
+  module _ (room : 96 ≤ lent) (other : Asks line lent JudgeLine → ⊥) where
+    abbrev Answered : Outcome → Type 0
+    Answered o = o .reply ≡ answerReply (o .code)
+
+    answered-kind : readingOf line ≡ Sound → (k : Kind) → request line .kind ≡ k → Answered (outcomeBy c k hold column)
+    answered-kind s (ShipLine x) e = refl
+    answered-kind s ColumnLine e = refl
+    answered-kind s (LoadLine l) e = refl
+    answered-kind s (HoldLine n) e = refl
+    answered-kind s (DropLine n) e = refl
+    answered-kind s JudgeLine e = absurd (other (record { room = room; sound = none-applies line s; asked = e }))
+    answered-kind s ClearLine e = refl
+    answered-kind s NoShape e = refl
+
+    answered-by : (r : Reading) → readingOf line ≡ r → Answered (stepOf c line lent)
+    answered-by Sound e = rw (hears c line lent room e .outcome) (answered-kind e (request line .kind) refl)
+    answered-by TooLong e = rw (at-reading c line lent room TooLong e)
+    answered-by BadByte e = rw (at-reading c line lent room BadByte e)
+    answered-by NotOneForm e = rw (at-reading c line lent room NotOneForm e)
+    answered-by BadNumber e = rw (at-reading c line lent room BadNumber e)
+
+-- ---- judge's reply
+-- no verdict has a code of the refusals
+no-verdict : (j : Judgement) → isOneOf refusals (judgementCode j) ≡ true → ⊥
+unfolding isOneOf
+no-verdict Passed e = let z : _≡_ {A = ℕ} 0 1 = cc in omega arith
+no-verdict ShortOfGm e = let z : _≡_ {A = ℕ} 0 1 = cc in omega arith
+no-verdict ShortAtHeel e = let z : _≡_ {A = ℕ} 0 1 = cc in omega arith
+no-verdict ShortBeyond e = let z : _≡_ {A = ℕ} 0 1 = cc in omega arith
+no-verdict ShortOfArea e = let z : _≡_ {A = ℕ} 0 1 = cc in omega arith
+
+judge-shows : (c : Condition) → isOneOf refusals (verdictGiven c (judgedOf c) .code) ≡ true → RefusalShown (verdictGiven c (judgedOf c) .code) (verdictGiven c (judgedOf c) .reply)
+judge-shows c =
+    judged-by c (λ (j : Judged). isOneOf refusals (verdictGiven c j .code) ≡ true → RefusalShown (verdictGiven c j .code) (verdictGiven c j .reply))
+    (λ n e t. refusal-shown n)
+    (λ i t. absurd (no-verdict (verdictOf (c .ship) (basisAt c i) .judgement) t))
+
+-- ---- all of them
+pub records-are-stored : RecordsAreStored
+records-are-stored = stores
+
+pub replies-show-the-code : RepliesShowTheCode
+replies-show-the-code c line lent =
+    record {
+      short = λ h. rw (short c line lent h);
+      judge = λ a. rw (asked c line lent JudgeLine a) (judge-shows c);
+      other = λ room other. rw (answered-by c line lent room other (readingOf line) refl) (answer-shown (stepOf c line lent .code));
+    }

@@ -1,0 +1,57 @@
+-- Document 01, Codes, by operation, in its own words and numbers: where each code is given, both ways. What a code of an operation says
+-- stands in operations/specs/Codes.antt and judging/specs/Codes.antt; demand 3 says the same of 00 and 40 to 43 for judge.
+use mathlib.Core.Path.{_≡_}
+use mathlib.Core.List.{List}
+use mathlib.Core.Logic.{_↔_}
+use Prim.Native.Nat.{ℕ, _≤_, _<_}
+use lib.ListN.{length}
+use Rattle.record.specs.declared.Ship.{Ship}
+use Rattle.record.specs.declared.Load.{Load}
+use Rattle.record.specs.Held.{held}
+use Rattle.limits.specs.Ranges.{ShipRange, LoadRange}
+use Rattle.text.specs.Token.{tokens}
+use Rattle.text.specs.Codes.{OtherByte, AllAllowed, OneForm, NoNumber}
+use Rattle.request.specs.declared.Kind.{Kind}
+use Rattle.request.specs.declared.Kind.the-variants.{ShipLine, ColumnLine, LoadLine, HoldLine, DropLine, JudgeLine, ClearLine, NoShape}
+use Rattle.request.specs.declared.Request.{Request}
+use Rattle.request.specs.Shape.{requestOf}
+use Rattle.condition.specs.declared.Condition.{Condition}
+use Rattle.judging.specs.Codes.{JudgeCodes}
+use Rattle.operations.specs.Codes.{LimitCodes, ColumnCodes, HoldCodes, DropCodes}
+use Rattle.demands.specs.Within.{Within}
+
+-- ---- what a line asks for
+
+-- the request of a line's form
+abbrev pub request : List ℕ → Request
+request line = requestOf (tokens line)
+
+-- none of 10 to 13 applies
+abbrev pub Sound : List ℕ → Type 0
+Sound line = (length line ≤ 2000) × AllAllowed line × OneForm 4 line × (NoNumber line → ⊥)
+
+-- a line with room for its reply, to which none of 10 to 13 applies, asks for what its form says
+pub record Asks (line : List ℕ) (lent : ℕ) (kind : Kind) : Type 0 where
+  pub room : 96 ≤ lent
+  pub sound : Sound line
+  pub asked : request line .kind ≡ kind
+
+-- ---- Every line: 15, 10, 11, 12, 13
+pub record EveryLine (line : List ℕ) (lent code : ℕ) : Type 0 where
+  pub fifteen : (code ≡ 15) ↔ (lent < 96)
+  pub ten : (code ≡ 10) ↔ ((96 ≤ lent) × (2000 < length line))
+  pub eleven : (code ≡ 11) ↔ ((96 ≤ lent) × ((length line ≤ 2000) × OtherByte line))
+  pub twelve : (code ≡ 12) ↔ ((96 ≤ lent) × ((length line ≤ 2000) × AllAllowed line × (OneForm 4 line → ⊥)))
+  pub thirteen : (code ≡ 13) ↔ ((96 ≤ lent) × ((length line ≤ 2000) × AllAllowed line × OneForm 4 line × NoNumber line))
+
+-- ---- all of them
+pub record ByOperation (c : Condition) (line : List ℕ) (lent code : ℕ) : Type 0 where
+  pub every : EveryLine line lent code
+  pub noShape : (code ≡ 14) ↔ Asks line lent NoShape
+  pub ship : (s : Ship) → Asks line lent (ShipLine s) → LimitCodes (ShipRange s) code
+  pub load : (l : Load) → Asks line lent (LoadLine l) → LimitCodes (LoadRange l) code
+  pub column : Asks line lent ColumnLine → ColumnCodes (held (c .columns)) (request line .column) code
+  pub hold : (n : ℕ) → Asks line lent (HoldLine n) → HoldCodes n (request line .hold) code
+  pub drop : (n : ℕ) → Asks line lent (DropLine n) → DropCodes c n code
+  pub judge : Within c → Asks line lent JudgeLine → JudgeCodes c code
+  pub clear : Asks line lent ClearLine → code ≡ 0

@@ -1,0 +1,4 @@
+pub mod Within
+pub mod Codes
+pub mod Runs
+pub mod Demands

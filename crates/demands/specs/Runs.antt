@@ -1,0 +1,113 @@
+-- Two worked runs of a panel newly started, as computed claims about the definitions. The first is document 01's. The figures of the
+-- second are chosen so that a slip in any rule of depths, shifted voids, weights, arms or verdict changes a reply, and so that two fields
+-- read in each other's place do (but VOID and GRAIN, which no figure takes, and EDGE under `old`): unlike columns with D between them;
+-- EDGE below 1,200 under `new`; an `old` ship with D 940, where the heeling arm at 1,200 is W itself, so that DIFF shows W to the unit;
+-- wings, hatches and void cells, an excess that moves past a cell with room, a void that does not fit; FLOOD inside a step; each of 40
+-- to 43 once, and a DIFF below zero beyond UPPER with 00.
+use mathlib.Core.Path.{_≡_}
+use mathlib.Core.List.{List, [], _∷_, map}
+use Prim.Native.String.{String}
+use Prim.Native.Nat.{ℕ}
+use lib.ListN.{take}
+use Rattle.whole.specs.Bytes.{bytes}
+use Rattle.grain.specs.Sum.{weightMoment}
+use Rattle.condition.specs.Condition.{empty}
+use Rattle.panel.specs.Step.{Outcome, Sent, conditionAfter, outcomes}
+
+-- lines sent with a buffer of 96 bytes, and the replies to them
+abbrev pub sent : List String → List Sent
+sent ls = map (λ (s : String). record { line = bytes s; lent = 96 }) ls
+
+abbrev pub replies : List String → List (List ℕ)
+replies ls = map (λ (o : Outcome). o .reply) (outcomes empty (sent ls))
+
+-- document 01's whole input, a drop, a clear and a judge behind it
+abbrev pub first : List String
+first =
+    "(ship new 1430 3500)"
+    ∷ "(column 20000 9000 (0 870 1740 2080 2600 3450 4300 5100 5850 6500))"
+    ∷ "(column 30000 9000 (0 870 1740 2080 2600 3450 4300 5100 5850 6500))"
+    ∷ "(load 25000 8000 100)"
+    ∷ "(hold 1 trimmed 12500 (part 10000 (void 10000 500 5000)))"
+    ∷ "(hold 2 partial 12500 (part 10000 12000 3000 6000))"
+    ∷ "(judge)"
+    ∷ "(drop 1)"
+    ∷ "(clear)"
+    ∷ "(judge)"
+    ∷ []
+
+-- the replies, and the weight moments of holds 1 and 2
+abbrev pub FirstRun : Type 0
+FirstRun =
+    (replies first
+    ≡ map bytes
+    ("(answer 00)\n"
+    ∷ "(answer 00)\n"
+    ∷ "(answer 00)\n"
+    ∷ "(answer 00)\n"
+    ∷ "(answer 00)\n"
+    ∷ "(answer 00)\n"
+    ∷ "(verdict 00 900000 368832 3500 2012606617)\n"
+    ∷ "(answer 00)\n"
+    ∷ "(answer 00)\n"
+    ∷ "(verdict 30)\n"
+    ∷ []))
+    × (map weightMoment (take 2 (conditionAfter empty (sent (take 6 first)) .holds)) ≡ 118548 ∷ 601653 ∷ [])
+
+abbrev pub second : List String
+second =
+    "(ship old 870 3777)"
+    ∷ "(column 683 7411 (0 640 1290 1560 1950 2600 3260 3870 4480 5090))"
+    ∷ "(column 1307 7903 (0 712 1423 1711 2139 2851 3571 4259 4913 5543))"
+    ∷ "(load 940 5317 83)"
+    ∷ "(hold 3 trimmed 12347 (part 1733 (wing 6250 1730 1210 450) (hatch 5110 870 0) (wing 7340 9270 940 3100) (void 4730 390 9370)))"
+    ∷ "(hold 7 voided 13861 (part 1919 (wing 4310 2630 850 0) (hatch 6120 910 1650) (wing 5290 5730 770 8650)) (part 1173 (void 5570 610 90) (wing 8080 410 1530 2870)))"
+    ∷ "(hold 16 partial 17489 (part 2211 8837 2213 4242))"
+    ∷ "(judge)"
+    ∷ "(ship new 950 3777)"
+    ∷ "(judge)"
+    ∷ "(hold 7 voided 9973 (part 611 (void 5110 1000 1399) (void 3001 7 11)))"
+    ∷ "(load 940 10621 83)"
+    ∷ "(judge)"
+    ∷ "(load 940 5317 83)"
+    ∷ "(ship new 9000 1333)"
+    ∷ "(judge)"
+    ∷ "(column 2089 8237 (0 1733 2611 2843 2957 2213 2351 3677 4391 6173))"
+    ∷ "(load 1999 6143 57)"
+    ∷ "(ship new 1117 9000)"
+    ∷ "(judge)"
+    ∷ "(ship new 1117 1477)"
+    ∷ "(judge)"
+    ∷ "(drop 3)"
+    ∷ "(judge)"
+    ∷ []
+
+abbrev pub SecondRun : Type 0
+SecondRun =
+    replies second
+    ≡ map bytes
+    ("(answer 00)\n"
+    ∷ "(answer 00)\n"
+    ∷ "(answer 00)\n"
+    ∷ "(answer 00)\n"
+    ∷ "(answer 00)\n"
+    ∷ "(answer 00)\n"
+    ∷ "(answer 00)\n"
+    ∷ "(verdict 00 2213634 115589 3777 1907181399)\n"
+    ∷ "(answer 00)\n"
+    ∷ "(verdict 41 2213634 -2711 3777 1907181399)\n"
+    ∷ "(answer 21)\n"
+    ∷ "(answer 00)\n"
+    ∷ "(verdict 40 -3090366 -877865 0 0)\n"
+    ∷ "(answer 00)\n"
+    ∷ "(answer 00)\n"
+    ∷ "(verdict 43 2213634 115589 1333 33297901)\n"
+    ∷ "(answer 00)\n"
+    ∷ "(answer 00)\n"
+    ∷ "(answer 00)\n"
+    ∷ "(verdict 42 1998560 1231560 4000 2624213253)\n"
+    ∷ "(answer 00)\n"
+    ∷ "(verdict 00 1998560 1231560 1477 1277675207)\n"
+    ∷ "(answer 00)\n"
+    ∷ "(verdict 00 1998560 1348026 1477 1445702110)\n"
+    ∷ [])

@@ -1,0 +1,3 @@
+pub mod Judge
+pub mod Complete
+pub mod Codes

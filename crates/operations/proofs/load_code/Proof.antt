@@ -1,0 +1,24 @@
+-- `load_code`: 00 or 20.
+use mathlib.Core.Path.{sym, ap, _∙_}
+use mathlib.Core.Bool.{cond}
+use Rattle.limits.specs.Limits.{loadLimits}
+use Rattle.operations.specs.Operations.{withLoad, taken, refusedWith, loadOperation}
+use Rattle.operations.proofs.Effects.{by-cond}
+use borrow.Author.Needs.{needs}
+use Rattle.operations.proofs.load_code.Statement.{statement}
+use Rattle.operations.proofs.load_code.Tie as tie
+
+load-limits-requires : tie.Need-load-limits-requires
+load-limits-requires c κs = search needs
+
+limit-code-requires : tie.Need-limit-code-requires
+limit-code-requires c κs = search needs
+
+returns : tie.Need-returns
+unfolding loadOperation
+returns c = λ d.
+    let l = c .before .before .args .l in
+    c .limit-code .ensures ∙ ap (λ x. cond x 0 20) (c .before .load-limits .ensures) ∙ sym (by-cond (loadLimits l) (taken (withLoad d l)) (refusedWith 20 d))
+
+pub load-code-spec : {M : Type 1} → statement M
+load-code-spec = tie.close (tie.spec load-limits-requires limit-code-requires returns)

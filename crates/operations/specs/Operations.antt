@@ -1,0 +1,89 @@
+-- Document 01, Codes, by operation: the code and the condition after. Every code but 00 leaves the condition unchanged.
+use mathlib.Core.Bool.{true, cond, _&&_}
+use Prim.Native.Nat.{ℕ, _-_}
+use lib.ListN.{getD, set}
+use Rattle.record.specs.declared.Ship.{Ship}
+use Rattle.record.specs.declared.Load.{Load}
+use Rattle.record.specs.declared.Column.{Column}
+use Rattle.record.specs.declared.Columns.{Columns}
+use Rattle.record.specs.declared.Hold.{Hold}
+use Rattle.record.specs.Held.{held}
+use Rattle.record.specs.Filler.{noHold}
+use Rattle.limits.specs.Limits.{shipLimits, loadLimits, holdLimits, placeLimits}
+use Rattle.columns.specs.declared.Added.{Added}
+use Rattle.columns.specs.declared.Added.the-variants.{Taken, Limits, Full, NotAbove}
+use Rattle.columns.specs.Columns.{columnAnswer, addedCode, withColumn}
+use Rattle.grain.specs.Sum.{holdFits}
+use Rattle.condition.specs.declared.Condition.{Condition}
+use Rattle.condition.specs.Condition.{isHeld}
+
+-- ---- how a record is put into the condition
+
+-- a new ship or load replaces the former one
+abbrev pub withShip : Condition → Ship → Condition
+withShip c s =
+    record { shipped = true; ship = s; loaded = c .loaded; load = c .load; columns = c .columns; holds = c .holds }
+
+abbrev pub withLoad : Condition → Load → Condition
+withLoad c l =
+    record { shipped = c .shipped; ship = c .ship; loaded = true; load = l; columns = c .columns; holds = c .holds }
+
+abbrev pub withColumns : Condition → Columns → Condition
+withColumns c ks =
+    record { shipped = c .shipped; ship = c .ship; loaded = c .loaded; load = c .load; columns = ks; holds = c .holds }
+
+-- hold N, from 1 on, stands in the place N − 1; a new one replaces the former one
+abbrev pub withHold : Condition → ℕ → Hold → Condition
+withHold c n h =
+    record {
+      shipped = c .shipped;
+      ship = c .ship;
+      loaded = c .loaded;
+      load = c .load;
+      columns = c .columns;
+      holds = set (c .holds) (n - 1) h;
+    }
+
+abbrev pub holdAt : Condition → ℕ → Hold
+holdAt c n = getD (c .holds) (n - 1) noHold
+
+-- ---- the operations
+
+-- an operation's code, and the condition after it
+pub record Change : Type 0 where
+  pub code : ℕ
+  pub after : Condition
+
+-- taken with 00; refused with a code
+abbrev pub taken : Condition → Change
+taken c = record { code = 0; after = c }
+
+abbrev pub refusedWith : ℕ → Condition → Change
+refusedWith code c = record { code = code; after = c }
+
+-- Ship, load: 20
+unfoldable pub shipOperation : Condition → Ship → Change
+shipOperation c s = cond (shipLimits s) (taken (withShip c s)) (refusedWith 20 c)
+
+unfoldable pub loadOperation : Condition → Load → Change
+loadOperation c l = cond (loadLimits l) (taken (withLoad c l)) (refusedWith 20 c)
+
+-- Column: 20, 23, 22
+abbrev pub columnChange : Condition → Column → Added → Change
+columnChange c k Taken = taken (withColumns c (withColumn (c .columns) k))
+columnChange c k Limits = refusedWith (addedCode Limits) c
+columnChange c k Full = refusedWith (addedCode Full) c
+columnChange c k NotAbove = refusedWith (addedCode NotAbove) c
+
+unfoldable pub columnOperation : Condition → Column → Change
+columnOperation c k = columnChange c k (columnAnswer (held (c .columns)) k)
+
+-- Hold: 20, 21
+unfoldable pub holdOperation : Condition → ℕ → Hold → Change
+holdOperation c n h =
+    cond (placeLimits n && holdLimits h) (cond (holdFits h) (taken (withHold c n h)) (refusedWith 21 c)) (refusedWith 20 c)
+
+-- Drop: 20, 24
+unfoldable pub dropOperation : Condition → ℕ → Change
+dropOperation c n =
+    cond (placeLimits n) (cond (isHeld (holdAt c n)) (taken (withHold c n noHold)) (refusedWith 24 c)) (refusedWith 20 c)

@@ -1,0 +1,48 @@
+-- What an operation that is taken leaves behind, field by field: its own record in its place, everything else as it was.
+use mathlib.Core.Path.{_≡_}
+use mathlib.Core.Bool.{true}
+use mathlib.Core.List.{[], _∷_, _++_}
+use Prim.Native.Nat.{ℕ, _-_, _≤_}
+use lib.ListN.{length, getD}
+use Rattle.record.specs.declared.Ship.{Ship}
+use Rattle.record.specs.declared.Load.{Load}
+use Rattle.record.specs.declared.Column.{Column}
+use Rattle.record.specs.declared.Hold.{Hold}
+use Rattle.record.specs.Held.{held}
+use Rattle.record.specs.Filler.{noHold}
+use Rattle.condition.specs.declared.Condition.{Condition}
+
+abbrev pub SameShip : Condition → Condition → Type 0
+SameShip c after = (after .shipped ≡ c .shipped) × (after .ship ≡ c .ship)
+
+abbrev pub SameLoad : Condition → Condition → Type 0
+SameLoad c after = (after .loaded ≡ c .loaded) × (after .load ≡ c .load)
+
+-- every place of the sixteen but the n-th, counted from 1, is as it was
+abbrev pub OtherPlaces : ℕ → Condition → Condition → Type 0
+OtherPlaces n c after = (m : ℕ) → 1 ≤ m → m ≤ 16 → (m ≡ n → ⊥) → getD (after .holds) (m - 1) noHold ≡ getD (c .holds) (m - 1) noHold
+
+abbrev pub ShipStored : Condition → Ship → (after : Condition) → Type 0
+ShipStored c s after =
+    (after .shipped ≡ true) × (after .ship ≡ s) × SameLoad c after × (after .columns ≡ c .columns) × (after .holds ≡ c .holds)
+
+abbrev pub LoadStored : Condition → Load → (after : Condition) → Type 0
+LoadStored c l after =
+    (after .loaded ≡ true) × (after .load ≡ l) × SameShip c after × (after .columns ≡ c .columns) × (after .holds ≡ c .holds)
+
+abbrev pub ColumnStored : Condition → Column → (after : Condition) → Type 0
+ColumnStored c k after =
+    length (c .columns .places) ≡ 20 →
+    (held (after .columns) ≡ held (c .columns) ++ k ∷ []) × SameShip c after × SameLoad c after × (after .holds ≡ c .holds)
+
+abbrev pub HoldStored : Condition → ℕ → Hold → (after : Condition) → Type 0
+HoldStored c n h after =
+    length (c .holds) ≡ 16 →
+    (getD (after .holds) (n - 1) noHold ≡ h)
+    × OtherPlaces n c after × SameShip c after × SameLoad c after × (after .columns ≡ c .columns)
+
+abbrev pub HoldDropped : Condition → ℕ → (after : Condition) → Type 0
+HoldDropped c n after =
+    length (c .holds) ≡ 16 →
+    (getD (after .holds) (n - 1) noHold .head .count ≡ 0)
+    × OtherPlaces n c after × SameShip c after × SameLoad c after × (after .columns ≡ c .columns)

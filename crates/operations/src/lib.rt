@@ -1,0 +1,161 @@
+// Each operation on the condition but judge: its code, and what it puts into the condition.
+use columns::Added;
+use condition::Condition;
+use grain::Weighed;
+use record::Column;
+use record::Columns;
+use record::Hold;
+use record::Load;
+use record::Rule;
+use record::Ship;
+ghost use mathlib.Core.Path.{_≡_};
+ghost use mathlib.Core.Bool.{cond};
+ghost use Prim.Native.Nat.{_-_, _≤_};
+ghost use lib.ListN.{length, getD};
+ghost use lib.Dec.{leb};
+ghost use Rattle.record.specs.Held.{held};
+ghost use Rattle.record.specs.Filler.{noHold};
+ghost use Rattle.limits.specs.Limits.{placeLimits};
+ghost use Rattle.columns.specs.Columns.{addedCode, withColumn};
+ghost use Rattle.grain.specs.Sum.{weighedCode};
+ghost use Rattle.condition.specs.Condition.{isHeld};
+ghost use Rattle.operations.specs.Operations.{withShip, withLoad, withColumns, withHold};
+ghost use Rattle.operations.specs.Operations.{shipOperation, loadOperation, columnOperation, holdOperation, dropOperation};
+
+// ---- the codes
+
+// 00 within the limits, 20 outside them.
+fn limit_code(inside: bool) -> u8
+    ensures { λ r. ⌜ r ≡ cond inside 0 20 ⌝ }
+{
+    if inside {
+        return 0;
+    }
+    20
+}
+
+// 00 or 20.
+pub fn ship_code(s: Ship) -> u8
+    ensures { λ r. ⌜ ((c : Condition) → r ≡ shipOperation c s .code) ⌝ }
+{
+    limit_code(limits::ship_limits(s))
+}
+
+// 00 or 20.
+pub fn load_code(l: Load) -> u8
+    ensures { λ r. ⌜ ((c : Condition) → r ≡ loadOperation c l .code) ⌝ }
+{
+    limit_code(limits::load_limits(l))
+}
+
+// The paper's code for each answer of a list of columns.
+fn added_code(a: Added) -> u8
+    ensures { λ r. ⌜ r ≡ addedCode a ⌝ }
+{
+    match a {
+        Added::Taken => 0,
+        Added::Limits => 20,
+        Added::Full => 23,
+        Added::NotAbove => 22,
+    }
+}
+
+// 00, or 20, 23, 22 in this order.
+pub fn column_code(c: Condition, k: Column) -> u8
+    ensures { λ r. ⌜ r ≡ columnOperation c k .code ⌝ }
+{
+    let ks = c.columns;
+    added_code(columns::column_answer(ks, k))
+}
+
+// The paper's code for each answer of a hold.
+fn weighed_code(w: Weighed) -> u8
+    ensures { λ r. ⌜ r ≡ weighedCode w ⌝ }
+{
+    match w {
+        Weighed::Weight(_) => 0,
+        Weighed::Limits => 20,
+        Weighed::NoFit => 21,
+    }
+}
+
+// 00, or 20, 21.
+pub fn hold_code(n: u32, h: Hold) -> u8
+    ensures { λ r. ⌜ ((c : Condition) → r ≡ holdOperation c n h .code) ⌝ }
+{
+    if !limits::place_limits(n) {
+        return 20;
+    }
+    weighed_code(grain::weigh(h))
+}
+
+// Whether there is a hold n.
+fn is_held(holds: [Hold; 16], n: u32) -> bool
+    requires { ⌜ (1 ≤ n) × (n ≤ 16) ⌝ }
+    ensures { λ r. ⌜ r ≡ isHeld (getD holds (n - 1) noHold) ⌝ }
+{
+    let at = (n - 1) as usize;
+    let h = holds[at];
+    let head = h.head;
+    0 < head.count
+}
+
+// 00, or 20, 24.
+pub fn drop_code(c: Condition, n: u32) -> u8
+    ensures { λ r. ⌜ r ≡ dropOperation c n .code ⌝ }
+{
+    if !limits::place_limits(n) {
+        return 20;
+    }
+    let holds = c.holds;
+    if !is_held(holds, n) {
+        return 24;
+    }
+    0
+}
+
+// ---- the effects, of what was answered with 00
+//
+// The condition is large, and is copied wherever a function gives it: a line that is turned down never comes here.
+
+pub fn with_ship(c: Condition, s: Ship) -> Condition
+    ensures { λ r. ⌜ r ≡ withShip c s ⌝ }
+{
+    let mut after = c;
+    after.shipped = true;
+    after.ship = s;
+    after
+}
+
+pub fn with_load(c: Condition, l: Load) -> Condition
+    ensures { λ r. ⌜ r ≡ withLoad c l ⌝ }
+{
+    let mut after = c;
+    after.loaded = true;
+    after.load = l;
+    after
+}
+
+pub fn with_column(c: Condition, k: Column) -> Condition
+    ensures { λ r. ⌜ r ≡ cond (leb 20 (length (held (c .columns)))) c (withColumns c (withColumn (c .columns) k)) ⌝ }
+{
+    let ks = c.columns;
+    if 20 <= ks.count {
+        return c;
+    }
+    let mut after = c;
+    after.columns = columns::with_column(ks, k);
+    after
+}
+
+pub fn with_hold(c: Condition, n: u32, h: Hold) -> Condition
+    ensures { λ r. ⌜ r ≡ cond (placeLimits n) (withHold c n h) c ⌝ }
+{
+    if !limits::place_limits(n) {
+        return c;
+    }
+    let place = (n - 1) as usize;
+    let mut after = c;
+    after.holds[place] = h;
+    after
+}
