@@ -46,18 +46,6 @@ old: cond (is r "new") (Under NewWord) (cond (is r "old") (Under OldWord)
 new: cond (is r "old") (Under NewWord) (cond (is r "new") (Under OldWord)
 """
 
-SHIP_FORGETS_LOAD = """
-file: crates/condition/specs/Condition.antt
-old: ship = s; loaded = c .loaded; load
-new: ship = s; loaded = false; load
-file: crates/panel/src/lib.rt
-old:     after.ship = s;
-new:     after.ship = s; after.loaded = false;
-file: crates/panel/proofs/Reached.antt
-old: (record { ship = λ t. p; load = g .load;
-new: (record { ship = λ t. p; load = λ t. let z : _≡_ {A = ℕ} 0 1 = cc in absurd (omega arith);
-"""
-
 # ---- behind an edit: what the laws below a claim repeat of the definition, so that the claim itself is what refuses
 
 FLOOD_IN_LAWS = """
@@ -171,7 +159,7 @@ FAULTS = {
     "dist_and_girder": Fault("DIST and GIRDER of a wing exchanged when read", [("", DIST_AND_GIRDER)]),
     "kg_and_fs": Fault("KG and FS of a load exchanged when read", [("", KG_AND_FS)]),
     "new_and_old": Fault("the words `new` and `old` exchanged", [("", NEW_AND_OLD)]),
-    "ship_forgets_load": Fault("a new ship forgets the load", [("", SHIP_FORGETS_LOAD)]),
+    "ship_forgets_load": Fault("a new ship forgets the load", [edit("operations", "theorem_ship_forgets_load")]),
     "hatch_100": Fault("a hatch's depth OPEN + 100", [edit("grain", "theorem_hatch_100")]),
     "table_2m_470": Fault("the table's entry of 2.0 m 470", [edit("grain", "theorem_table_2m_470")]),
     "120_mm_per_metre": Fault("120 mm more for each metre above 8.0 m", [edit("grain", "theorem_120_mm_per_metre")]),

@@ -22,7 +22,7 @@ use Rattle.panel.proofs.Answers.{line-sound}
 pub none-applies : (line : List ℕ) → readingOf line ≡ Sound → SoundLine line
 none-applies line e = line-code line .sound .0 (ap readingCode e)
 
-pub passes-all : (line : List ℕ) → SoundLine line → readingOf line ≡ Sound
+passes-all : (line : List ℕ) → SoundLine line → readingOf line ≡ Sound
 passes-all line s = line-sound (readingOf line) (line-code line .sound .1 s)
 
 -- the codes that are given before the request is looked at
@@ -90,7 +90,7 @@ module _ (c : Condition) (line : List ℕ) (lent : ℕ) where
   code-of k a = ap (λ (o : Outcome). o .code) (asked k a)
 
   -- a line that is taken was heard, and has the outcome that it asks for
-  pub taken-asks : (k : Kind) → request line .kind ≡ k → stepOf c line lent .code ≡ 0 → Asks line lent k
+  taken-asks : (k : Kind) → request line .kind ≡ k → stepOf c line lent .code ≡ 0 → Asks line lent k
   unfolding isOneOf
   taken-asks k e z = asks k (heard 0 z refl) e
 

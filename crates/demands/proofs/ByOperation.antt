@@ -74,6 +74,13 @@ module _ (c : Condition) (line : List ℕ) (lent : ℕ) where
   given = stepOf c line lent .code
 
   module _ (room : 96 ≤ lent) where
+    to-reading : (r : Reading) → readingOf line ≡ r → 0 < readingCode r → given ≡ readingCode r
+    to-reading Sound e h = absurd (omega arith)
+    to-reading TooLong e h = ap (λ (o : Outcome). o .code) (at-reading c line lent room TooLong e)
+    to-reading BadByte e h = ap (λ (o : Outcome). o .code) (at-reading c line lent room BadByte e)
+    to-reading NotOneForm e h = ap (λ (o : Outcome). o .code) (at-reading c line lent room NotOneForm e)
+    to-reading BadNumber e h = ap (λ (o : Outcome). o .code) (at-reading c line lent room BadNumber e)
+
     -- the code is that of the tests, or none that they give
     by-reading : (r : Reading) → readingOf line ≡ r → (n : ℕ) → isOneOf early n ≡ true → given ≡ n → readingCode r ≡ n
     by-reading Sound e n t g =
@@ -82,17 +89,10 @@ module _ (c : Condition) (line : List ℕ) (lent : ℕ) where
         let a = apart (codesOf (request line .kind)) (requested c line .code) (late (request line .kind)) l in
         let b : isOneOf early n ≡ false = rw (sym (ap (λ (o : Outcome). o .code) o) ∙ g) at a in
         clash (sym b ∙ t)
-    by-reading TooLong e n t g = sym (ap (λ (o : Outcome). o .code) (at-reading c line lent room TooLong e)) ∙ g
-    by-reading BadByte e n t g = sym (ap (λ (o : Outcome). o .code) (at-reading c line lent room BadByte e)) ∙ g
-    by-reading NotOneForm e n t g = sym (ap (λ (o : Outcome). o .code) (at-reading c line lent room NotOneForm e)) ∙ g
-    by-reading BadNumber e n t g = sym (ap (λ (o : Outcome). o .code) (at-reading c line lent room BadNumber e)) ∙ g
-
-    to-reading : (r : Reading) → readingOf line ≡ r → 0 < readingCode r → given ≡ readingCode r
-    to-reading Sound e h = absurd (omega arith)
-    to-reading TooLong e h = ap (λ (o : Outcome). o .code) (at-reading c line lent room TooLong e)
-    to-reading BadByte e h = ap (λ (o : Outcome). o .code) (at-reading c line lent room BadByte e)
-    to-reading NotOneForm e h = ap (λ (o : Outcome). o .code) (at-reading c line lent room NotOneForm e)
-    to-reading BadNumber e h = ap (λ (o : Outcome). o .code) (at-reading c line lent room BadNumber e)
+    by-reading TooLong e n t g = sym (to-reading TooLong e (omega arith)) ∙ g
+    by-reading BadByte e n t g = sym (to-reading BadByte e (omega arith)) ∙ g
+    by-reading NotOneForm e n t g = sym (to-reading NotOneForm e (omega arith)) ∙ g
+    by-reading BadNumber e n t g = sym (to-reading BadNumber e (omega arith)) ∙ g
 
     same-code : (n : ℕ) → isOneOf early n ≡ true → 0 < n → (given ≡ n) ↔ (readingCode (readingOf line) ≡ n)
     same-code n t h = (by-reading (readingOf line) refl n t, λ e. to-reading (readingOf line) refl (omega arith) ∙ e)
@@ -144,7 +144,7 @@ module _ (c : Condition) (line : List ℕ) (lent : ℕ) where
       asks c line lent NoShape h (only-no-shape (request line .kind) (rw z at l))
 
   -- ---- all of them
-  pub by-operation : ByOperation c line lent given
+  by-operation : ByOperation c line lent given
   by-operation =
       record {
         every = every-line;

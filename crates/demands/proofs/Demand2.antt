@@ -1,15 +1,13 @@
 -- Demand 2: W is the weight moments of the holds held, added up, each as the paper's words make it.
-use mathlib.Core.Path.{_≡_, ap, _∙_}
-use mathlib.Core.Bool.{true}
-use Prim.Native.Nat.{ℕ, _≤_, _<_}
+use mathlib.Core.Path.{ap, _∙_}
+use Prim.Native.Nat.{ℕ, _<_}
 use native.Mathlib.Omega.{arith}
 use lib.ListN.{length, getD, length-take}
 use lib.Seq.{getD-take}
 use borrow.Author.Tests.{lt-ltb}
 use Rattle.record.specs.declared.Part.{Part}
-use Rattle.record.specs.declared.Hold.{Hold}
 use Rattle.record.specs.Filler.{noPart, noHold}
-use Rattle.grain.specs.Figures.{total, part, WeightMoment}
+use Rattle.grain.specs.Figures.{total, WeightMoment}
 use Rattle.grain.specs.Sum.{weightMoment, totalWeight}
 use Rattle.grain.proofs.Totals.{sum-total}
 use Rattle.grain.proofs.Weights.{nothing-weighs}

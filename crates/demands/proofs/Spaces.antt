@@ -2,8 +2,7 @@
 use mathlib.Core.Path.{_≡_, refl}
 use mathlib.Core.Bool.{false, _&&_}
 use mathlib.Core.List.{List, _∷_, _++_}
-use Prim.Native.Nat.{ℕ, _<_}
-use lib.ListN.{length}
+use Prim.Native.Nat.{ℕ}
 use Rattle.text.specs.declared.Reading.{Reading}
 use Rattle.text.specs.declared.Reading.the-variants.{Sound, TooLong, BadByte, NotOneForm, BadNumber}
 use Rattle.text.specs.Token.{startsRun}
