@@ -71,7 +71,7 @@ judge-requires c κs =
       apart = rw (e1 .0, e2 .0, ← q .low, ← q .high) (st .apart);
       from = rw (e1 .0, ← q .low) (st .low);
       to = rw (e2 .0, ← q .high) (st .high);
-      weight = weights-together (k .args .c .holds) (weighed .weight .given .0 .0) (sym (weighed .before .before .weights-of .ensures) ∙ weighed .weight .given .1) .2;
+      weight = omega (arith, weights-together (k .args .c .holds) (weighed .weight .given .0 .0) (sym (weighed .before .before .weights-of .ensures) ∙ weighed .weight .given .1) .2);
     }
 
 returns-2 : tie.Need-returns-2
