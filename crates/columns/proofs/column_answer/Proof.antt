@@ -13,14 +13,8 @@ use borrow.Author.Needs.{needs}
 use Rattle.columns.proofs.column_answer.Statement.{statement}
 use Rattle.columns.proofs.column_answer.Tie as tie
 
-column-limits-requires : tie.Need-column-limits-requires
-column-limits-requires c κs = search needs
-
 returns : tie.Need-returns
 returns c = answer-limits (held (c .before .before .args .t1)) (c .before .before .args .k) (sym (c .before .column-limits .ensures) ∙ not-true _ (c .if1 .taken))
-
-cast-n : tie.Need-cast-n
-cast-n c = search needs
 
 returns-2 : tie.Need-returns-2
 returns-2 c =
@@ -36,28 +30,25 @@ returns-3 c =
     let good : columnLimits (a .k) ≡ true = sym (c .before .before .before .column-limits .ensures) ∙ not-false _ (c .before .before .if1 .left) in
     answer-above (held (a .t1)) (a .k) good true (omega (arith, length-take (a .t1 .count) (a .t1 .places))) (above-none (a .k .d) (a .t1 .places) (a .t1 .count) (omega arith))
 
-sub-last : tie.Need-sub-last
-sub-last c = search needs
-
-mul-last : tie.Need-mul-last
-mul-last c = search needs
-
-element-copy-out-last : tie.Need-element-copy-out-last
-element-copy-out-last c = search needs
-
 returns-4 : tie.Need-returns-4
 returns-4 c =
-    let a = c .before .before .before .before .before .before .before .before .args in
+    let if1 = c .before .before .before .before .before .before .if1 in
+    let column-limits = c .before .before .before .before .before .before .before .column-limits in
+    let args = c .before .before .before .before .before .before .before .before .args in
+    let a = args in
     let l : length (a .t1 .places) ≡ 20 = search (unmapped, needs) in
-    let good : columnLimits (a .k) ≡ true = sym (c .before .before .before .before .before .before .before .column-limits .ensures) ∙ not-false _ (c .before .before .before .before .before .before .if1 .left) in
+    let good : columnLimits (a .k) ≡ true = sym (column-limits .ensures) ∙ not-false _ (if1 .left) in
     answer-above (held (a .t1)) (a .k) good true (omega (arith, length-take (a .t1 .count) (a .t1 .places)))
     (above-last (a .k .d) (a .t1 .places) (a .t1 .count) pastColumn (omega arith) (omega arith) ∙ lt-ltb _ _ (c .if4 .taken))
 
 returns-5 : tie.Need-returns-5
 returns-5 c =
-    let a = c .before .before .before .before .before .before .before .before .args in
+    let if1 = c .before .before .before .before .before .before .if1 in
+    let column-limits = c .before .before .before .before .before .before .before .column-limits in
+    let args = c .before .before .before .before .before .before .before .before .args in
+    let a = args in
     let l : length (a .t1 .places) ≡ 20 = search (unmapped, needs) in
-    let good : columnLimits (a .k) ≡ true = sym (c .before .before .before .before .before .before .before .column-limits .ensures) ∙ not-false _ (c .before .before .before .before .before .before .if1 .left) in
+    let good : columnLimits (a .k) ≡ true = sym (column-limits .ensures) ∙ not-false _ (if1 .left) in
     answer-above (held (a .t1)) (a .k) good false (omega (arith, length-take (a .t1 .count) (a .t1 .places)))
     (above-last (a .k .d) (a .t1 .places) (a .t1 .count) pastColumn (omega arith) (omega arith) ∙ le-ltb _ _ (c .if4 .left))
 
@@ -65,13 +56,13 @@ pub column-answer-spec : {M : Type 1} → statement M
 column-answer-spec =
     tie.close
     (tie.spec
-    column-limits-requires
+    (λ c κs. search needs)
     returns
-    cast-n
+    (λ c. search needs)
     returns-2
     returns-3
-    sub-last
-    mul-last
-    element-copy-out-last
+    (λ c. search needs)
+    (λ c. search needs)
+    (λ c. search needs)
     returns-4
     returns-5)

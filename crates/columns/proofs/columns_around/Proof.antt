@@ -21,38 +21,11 @@ Inv-loop d cs n i₀ i = (length (cs .places) ≡ 20) × (n ≡ length (held cs)
 abbrev μ-loop : tie.MeasureT-loop
 μ-loop d cs n i₀ i = n - i
 
-cast-smaller : tie.Need-cast-smaller Inv-loop μ-loop
-cast-smaller c = search needs
-
-smaller-requires : tie.Need-smaller-requires Inv-loop μ-loop
-smaller-requires c κs = search needs
-
 loop-holds : tie.Need-loop-holds Inv-loop μ-loop
 loop-holds c =
     let cs = c .before .args .t1 in
     let e : length (cs .places) ≡ 20 = search (unmapped, needs) in
     (e, omega (arith, length-take (cs .count) (cs .places)), omega arith, omega arith, moved-none _)
-
-add-loop : tie.Need-add-loop Inv-loop μ-loop
-add-loop c = search needs
-
-mul-a : tie.Need-mul-a Inv-loop μ-loop
-mul-a c = search needs
-
-element-copy-out-a : tie.Need-element-copy-out-a Inv-loop μ-loop
-element-copy-out-a c = search needs
-
-add-b : tie.Need-add-b Inv-loop μ-loop
-add-b c = search needs
-
-mul-b : tie.Need-mul-b Inv-loop μ-loop
-mul-b c = search needs
-
-element-copy-out-b : tie.Need-element-copy-out-b Inv-loop μ-loop
-element-copy-out-b c = search needs
-
-is-between-requires : tie.Need-is-between-requires Inv-loop μ-loop
-is-between-requires c κs = search needs
 
 returns : tie.Need-returns Inv-loop μ-loop
 returns c =
@@ -65,12 +38,6 @@ returns c =
     let f = getD-take (cs .count) (cs .places) (i + 1) pastColumn (omega (arith, length-take (cs .count) (cs .places))) in
     let e : (leb (getD (held cs) i pastColumn .d) d && leb d (getD (held cs) (i + 1) pastColumn .d)) ≡ c .before .is-between .result = rw (g, f) (sym (c .before .is-between .ensures)) in
     around-found d (held cs) i (v .4) (omega arith) (e ∙ c .if1 .taken)
-
-add-i : tie.Need-add-i Inv-loop μ-loop
-add-i c = search needs
-
-loop-less : tie.Need-loop-less Inv-loop μ-loop
-loop-less c = search needs
 
 loop-again : tie.Need-loop-again Inv-loop μ-loop
 loop-again c =
@@ -96,18 +63,18 @@ columns-around-spec =
     (tie.spec
     Inv-loop
     μ-loop
-    cast-smaller
-    smaller-requires
+    (λ c. search needs)
+    (λ c κs. search needs)
     loop-holds
-    add-loop
-    mul-a
-    element-copy-out-a
-    add-b
-    mul-b
-    element-copy-out-b
-    is-between-requires
+    (λ c. search needs)
+    (λ c. search needs)
+    (λ c. search needs)
+    (λ c. search needs)
+    (λ c. search needs)
+    (λ c. search needs)
+    (λ c κs. search needs)
     returns
-    add-i
-    loop-less
+    (λ c. search needs)
+    (λ c. search needs)
     loop-again
     returns-2)

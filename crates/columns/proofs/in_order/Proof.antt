@@ -21,42 +21,26 @@ Inv-loop cs n i₀ i = (length (cs .places) ≡ 20) × (n ≡ length (held cs)) 
 abbrev μ-loop : tie.MeasureT-loop
 μ-loop cs n i₀ i = n - i
 
-cast-smaller : tie.Need-cast-smaller Inv-loop μ-loop
-cast-smaller c = search needs
-
-smaller-requires : tie.Need-smaller-requires Inv-loop μ-loop
-smaller-requires c κs = search needs
-
 loop-holds : tie.Need-loop-holds Inv-loop μ-loop
 loop-holds c =
     let cs = c .before .args .t1 in
     let e : length (cs .places) ≡ 20 = search (unmapped, needs) in
     (e, omega (arith, length-take (cs .count) (cs .places)), omega arith, omega arith, refl)
 
-mul-k : tie.Need-mul-k Inv-loop μ-loop
-mul-k c = search needs
-
-element-copy-out-k : tie.Need-element-copy-out-k Inv-loop μ-loop
-element-copy-out-k c = search needs
-
-column-limits-requires : tie.Need-column-limits-requires Inv-loop μ-loop
-column-limits-requires c κs = search needs
-
 returns : tie.Need-returns Inv-loop μ-loop
 returns c =
-    let cs = c .before .before .before .before .before .before .args .t1 in
+    let args = c .before .before .before .before .before .before .args in
+    let cs = args .t1 in
     let i = c .before .before .before .before .loop .i in
     let v = c .before .before .before .before .loop .inv in
     let b : i < cs .count = omega (arith, v .1, length-take (cs .count) (cs .places)) in
     let k = getD-take (cs .count) (cs .places) i pastColumn b in
     order-limits (held cs) i pastColumn (v .4) (omega arith) (ap columnLimits k ∙ sym (c .before .column-limits .ensures) ∙ not-true _ (c .if1 .taken))
 
-add-if2 : tie.Need-add-if2 Inv-loop μ-loop
-add-if2 c = search needs
-
 returns-2 : tie.Need-returns-2 Inv-loop μ-loop
 returns-2 c =
-    let cs = c .before .before .before .before .before .before .before .args .t1 in
+    let args = c .before .before .before .before .before .before .before .args in
+    let cs = args .t1 in
     let i = c .before .before .before .before .before .loop .i in
     let v = c .before .before .before .before .before .loop .inv in
     let b : i < cs .count = omega (arith, v .1, length-take (cs .count) (cs .places)) in
@@ -64,44 +48,35 @@ returns-2 c =
     let good = ap columnLimits k ∙ sym (c .before .before .column-limits .ensures) ∙ not-false _ (c .before .if1 .left) in
     order-last (held cs) i pastColumn (v .4) (omega arith) good (omega arith)
 
-add-m : tie.Need-add-m Inv-loop μ-loop
-add-m c = search needs
-
-mul-m : tie.Need-mul-m Inv-loop μ-loop
-mul-m c = search needs
-
-element-copy-out-m : tie.Need-element-copy-out-m Inv-loop μ-loop
-element-copy-out-m c = search needs
-
 returns-3 : tie.Need-returns-3 Inv-loop μ-loop
 returns-3 c =
-    let cs = c .before .before .before .before .before .before .before .before .before .before .before .args .t1 in
-    let i = c .before .before .before .before .before .before .before .before .before .loop .i in
-    let v = c .before .before .before .before .before .before .before .before .before .loop .inv in
+    let column-limits = c .before .before .before .before .before .before .column-limits in
+    let loop = c .before .before .before .before .before .before .before .before .before .loop in
+    let args = c .before .before .before .before .before .before .before .before .before .before .before .args in
+    let cs = args .t1 in
+    let i = loop .i in
+    let v = loop .inv in
     let b : i < cs .count = omega (arith, v .1, length-take (cs .count) (cs .places)) in
     let k = getD-take (cs .count) (cs .places) i pastColumn b in
     let b2 : i + 1 < cs .count = omega (arith, v .1, length-take (cs .count) (cs .places)) in
     let k2 = getD-take (cs .count) (cs .places) (i + 1) pastColumn b2 in
-    let good = ap columnLimits k ∙ sym (c .before .before .before .before .before .before .column-limits .ensures) ∙ not-false _ (c .before .before .before .before .before .if1 .left) in
+    let good = ap columnLimits k ∙ sym (column-limits .ensures) ∙ not-false _ (c .before .before .before .before .before .if1 .left) in
     let e = c .if3 .taken in
     order-not-above (held cs) i pastColumn (v .4) (omega arith) good (omega arith) (rw (k, k2) e)
 
-add-i : tie.Need-add-i Inv-loop μ-loop
-add-i c = search needs
-
-loop-less : tie.Need-loop-less Inv-loop μ-loop
-loop-less c = search needs
-
 loop-again : tie.Need-loop-again Inv-loop μ-loop
 loop-again c =
-    let cs = c .before .before .before .before .before .before .before .before .before .before .before .args .t1 in
-    let i = c .before .before .before .before .before .before .before .before .before .loop .i in
-    let v = c .before .before .before .before .before .before .before .before .before .loop .inv in
+    let column-limits = c .before .before .before .before .before .before .column-limits in
+    let loop = c .before .before .before .before .before .before .before .before .before .loop in
+    let args = c .before .before .before .before .before .before .before .before .before .before .before .args in
+    let cs = args .t1 in
+    let i = loop .i in
+    let v = loop .inv in
     let b : i < cs .count = omega (arith, v .1, length-take (cs .count) (cs .places)) in
     let k = getD-take (cs .count) (cs .places) i pastColumn b in
     let b2 : i + 1 < cs .count = omega (arith, v .1, length-take (cs .count) (cs .places)) in
     let k2 = getD-take (cs .count) (cs .places) (i + 1) pastColumn b2 in
-    let good = ap columnLimits k ∙ sym (c .before .before .before .before .before .before .column-limits .ensures) ∙ not-false _ (c .before .before .before .before .before .if1 .left) in
+    let good = ap columnLimits k ∙ sym (column-limits .ensures) ∙ not-false _ (c .before .before .before .before .before .if1 .left) in
     let e = c .if3 .left in
     (v .0, v .1, v .2, omega arith, order-next (held cs) i pastColumn (v .4) (omega arith) good (omega arith) (rw (k, k2) e))
 
@@ -118,20 +93,20 @@ in-order-spec =
     (tie.spec
     Inv-loop
     μ-loop
-    cast-smaller
-    smaller-requires
+    (λ c. search needs)
+    (λ c κs. search needs)
     loop-holds
-    mul-k
-    element-copy-out-k
-    column-limits-requires
+    (λ c. search needs)
+    (λ c. search needs)
+    (λ c κs. search needs)
     returns
-    add-if2
+    (λ c. search needs)
     returns-2
-    add-m
-    mul-m
-    element-copy-out-m
+    (λ c. search needs)
+    (λ c. search needs)
+    (λ c. search needs)
     returns-3
-    add-i
-    loop-less
+    (λ c. search needs)
+    (λ c. search needs)
     loop-again
     returns-4)

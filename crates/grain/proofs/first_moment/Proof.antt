@@ -8,17 +8,11 @@ use borrow.Author.Needs.{needs}
 use Rattle.grain.proofs.first_moment.Statement.{statement}
 use Rattle.grain.proofs.first_moment.Tie as tie
 
-mul-if1 : tie.Need-mul-if1
-mul-if1 c = search needs
-
 mul-if1-2 : tie.Need-mul-if1-2
 mul-if1-2 c = let s = c in let ww = mul-le-mul (s .pre .0) (s .pre .0) in omega (arith, ww, mul-le-mul (s .pre .0) ww, mul-le-mul (s .pre .1) (s .pre .0))
 
 mul-if1-3 : tie.Need-mul-if1-3
 mul-if1-3 c = let s = c in let ww = mul-le-mul (s .pre .0) (s .pre .0) in omega (arith, ww, mul-le-mul (s .pre .0) ww, mul-le-mul (s .pre .1) (s .pre .0))
-
-base-of-requires : tie.Need-base-of-requires
-base-of-requires c κs = search needs
 
 mul-cut : tie.Need-mul-cut
 mul-cut c = let s = c .before .before in let r : c .base-of .result ≤ 40000 = omega (arith, c .base-of .ensures, base-small (s .args .area) (s .pre .1)) in omega (arith, mul-le-mul (s .pre .1) r)
@@ -31,9 +25,6 @@ mul-cut-2 c = let s = c .before in let ww = mul-le-mul (s .pre .0) (s .pre .0) i
 
 mul-cut-3 : tie.Need-mul-cut-3
 mul-cut-3 c = let s = c .before in let ww = mul-le-mul (s .pre .0) (s .pre .0) in omega (arith, ww, mul-le-mul (s .pre .0) ww, mul-le-mul (s .pre .1) (s .pre .0))
-
-mul-cut-4 : tie.Need-mul-cut-4
-mul-cut-4 c = search needs
 
 mul-cut-5 : tie.Need-mul-cut-5
 mul-cut-5 c = let s = c .before in let ww = mul-le-mul (s .pre .0) (s .pre .0) in omega (arith, ww, mul-le-mul (s .pre .0) ww, mul-le-mul (s .pre .1) (s .pre .0))
@@ -57,15 +48,15 @@ pub first-moment-spec : {M : Type 1} → statement M
 first-moment-spec =
     tie.close
     (tie.spec
-    mul-if1
+    (λ c. search needs)
     mul-if1-2
     mul-if1-3
-    base-of-requires
+    (λ c κs. search needs)
     mul-cut
     cut-requires
     mul-cut-2
     mul-cut-3
-    mul-cut-4
+    (λ c. search needs)
     mul-cut-5
     mul-cut-6
     sub-cut

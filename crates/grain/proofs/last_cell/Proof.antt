@@ -8,17 +8,15 @@ use borrow.Author.Needs.{needs}
 use Rattle.grain.proofs.last_cell.Statement.{statement}
 use Rattle.grain.proofs.last_cell.Tie as tie
 
-add-keeps : tie.Need-add-keeps
-add-keeps c = search needs
-
-with-kept-requires : tie.Need-with-kept-requires
-with-kept-requires c κs = search needs
-
 sub-t7 : tie.Need-sub-t7
-sub-t7 c = let e = c .before .with-kept .ensures in omega (arith, c .before .before .before .before .before .before .pre .1, ap (λ (t : Sums). t .first) e, ap (λ (t : Sums). t .old) e, ap (λ (t : Sums). t .high) e)
+sub-t7 c =
+    let pre = c .before .before .before .before .before .before .pre in
+    let e = c .before .with-kept .ensures in omega (arith, pre .1, ap (λ (t : Sums). t .first) e, ap (λ (t : Sums). t .old) e, ap (λ (t : Sums). t .high) e)
 
 sub-t9 : tie.Need-sub-t9
-sub-t9 c = let e = c .before .before .with-kept .ensures in omega (arith, c .before .before .before .before .before .before .before .pre .1, ap (λ (t : Sums). t .first) e, ap (λ (t : Sums). t .old) e, ap (λ (t : Sums). t .high) e)
+sub-t9 c =
+    let pre = c .before .before .before .before .before .before .before .pre in
+    let e = c .before .before .with-kept .ensures in omega (arith, pre .1, ap (λ (t : Sums). t .first) e, ap (λ (t : Sums). t .old) e, ap (λ (t : Sums). t .high) e)
 
 returns : tie.Need-returns
 unfolding lastAnswer
@@ -29,4 +27,4 @@ unfolding lastAnswer
 returns-2 c = rw (lt-leb _ _ (c .if1 .left)) refl
 
 pub last-cell-spec : {M : Type 1} → statement M
-last-cell-spec = tie.close (tie.spec add-keeps with-kept-requires sub-t7 sub-t9 returns returns-2)
+last-cell-spec = tie.close (tie.spec (λ c. search needs) (λ c κs. search needs) sub-t7 sub-t9 returns returns-2)

@@ -7,23 +7,11 @@ use borrow.Author.Needs.{needs}
 use Rattle.grain.proofs.most_held.Statement.{statement}
 use Rattle.grain.proofs.most_held.Tie as tie
 
-mul-if1 : tie.Need-mul-if1
-mul-if1 c = search needs
-
-mul-if1-2 : tie.Need-mul-if1-2
-mul-if1-2 c = search needs
-
 mul-result : tie.Need-mul-result
 mul-result c = let a = c .before .args in let w : a .w ≤ 65535 = omega arith in let g : a .g ≤ 65535 = omega arith in omega (arith, mul-le-mul g g, mul-le-mul w g, mul-le-mul w w)
 
 mul-result-2 : tie.Need-mul-result-2
 mul-result-2 c = let a = c .before .args in let w : a .w ≤ 65535 = omega arith in let g : a .g ≤ 65535 = omega arith in omega (arith, mul-le-mul g g, mul-le-mul w g, mul-le-mul w w)
-
-mul-result-3 : tie.Need-mul-result-3
-mul-result-3 c = search needs
-
-div-result : tie.Need-div-result
-div-result c = search needs
 
 mul-result-4 : tie.Need-mul-result-4
 mul-result-4 c = let a = c .before .args in let w : a .w ≤ 65535 = omega arith in let g : a .g ≤ 65535 = omega arith in omega (arith, mul-le-mul g g, mul-le-mul w g, mul-le-mul w w)
@@ -50,12 +38,12 @@ pub most-held-spec : {M : Type 1} → statement M
 most-held-spec =
     tie.close
     (tie.spec
-    mul-if1
-    mul-if1-2
+    (λ c. search needs)
+    (λ c. search needs)
     mul-result
     mul-result-2
-    mul-result-3
-    div-result
+    (λ c. search needs)
+    (λ c. search needs)
     mul-result-4
     mul-result-5
     mul-result-6

@@ -10,21 +10,9 @@ use borrow.Author.Needs.{needs}
 use Rattle.grain.proofs.part_moment.Statement.{statement}
 use Rattle.grain.proofs.part_moment.Tie as tie
 
-part-section-requires : tie.Need-part-section-requires
-part-section-requires c κs = search needs
-
-enum-known-m : tie.Need-enum-known-m
-enum-known-m c = search needs
-
-enum-told : tie.Need-enum-told
-enum-told c = search needs
-
 returns : tie.Need-returns
 unfolding partAnswer partSectionAnswer
 returns c = let a = c .before .before .before .args in rw (no-fit-of (partFits (a .mode) (a .p)) (partSection (a .mode) (a .p)) (sym (c .enum-told .given .1) ∙ c .before .before .part-section .ensures)) refl
-
-cast-divide-up : tie.Need-cast-divide-up
-cast-divide-up c = search needs
 
 mul-divide-up : tie.Need-mul-divide-up
 unfolding partSectionAnswer
@@ -42,11 +30,11 @@ pub part-moment-spec : {M : Type 1} → statement M
 part-moment-spec =
     tie.close
     (tie.spec
-    part-section-requires
-    enum-known-m
-    enum-told
+    (λ c κs. search needs)
+    (λ c. search needs)
+    (λ c. search needs)
     returns
-    cast-divide-up
+    (λ c. search needs)
     mul-divide-up
     divide-up-requires
     returns-2)

@@ -5,23 +5,11 @@ use borrow.Author.Needs.{needs}
 use Rattle.grain.proofs.part_section.Statement.{statement}
 use Rattle.grain.proofs.part_section.Tie as tie
 
-enum-told : tie.Need-enum-told
-enum-told c = search needs
-
 section-requires : tie.Need-section-requires
 section-requires c κs = rw (c .enum-told .given .1) at (c .before .before .pre)
 
-enum-told-2 : tie.Need-enum-told-2
-enum-told-2 c = search needs
-
 section-requires-2 : tie.Need-section-requires-2
 section-requires-2 c κs = rw (c .enum-told2 .given .1) at (c .before .before .pre)
-
-enum-told-3 : tie.Need-enum-told-3
-enum-told-3 c = search needs
-
-slack-moment-requires : tie.Need-slack-moment-requires
-slack-moment-requires c κs = search needs
 
 returns : tie.Need-returns
 unfolding partSectionAnswer sectionAnswer
@@ -39,12 +27,12 @@ pub part-section-spec : {M : Type 1} → statement M
 part-section-spec =
     tie.close
     (tie.spec
-    enum-told
+    (λ c. search needs)
     section-requires
-    enum-told-2
+    (λ c. search needs)
     section-requires-2
-    enum-told-3
-    slack-moment-requires
+    (λ c. search needs)
+    (λ c κs. search needs)
     returns
     returns-2
     returns-3)

@@ -23,20 +23,11 @@ Inv-loop h mode n sum₀ i₀ sum i = HoldWithin h × (length (h .parts) ≡ 6) 
 abbrev μ-loop : tie.MeasureT-loop
 μ-loop h mode n sum₀ i₀ sum i = n - i
 
-cast-n : tie.Need-cast-n Inv-loop μ-loop
-cast-n c = search needs
-
 loop-holds : tie.Need-loop-holds Inv-loop μ-loop
 loop-holds c =
     let h = c .before .before .args .t1 in
     let e : length (h .parts) ≡ 6 = search (unmapped, needs) in
     (hold-within h (c .before .before .pre), e, refl, refl, omega arith, refl, omega arith, omega arith)
-
-mul-p : tie.Need-mul-p Inv-loop μ-loop
-mul-p c = search needs
-
-element-copy-out-p : tie.Need-element-copy-out-p Inv-loop μ-loop
-element-copy-out-p c = search needs
 
 part-moment-requires : tie.Need-part-moment-requires Inv-loop μ-loop
 part-moment-requires c κs =
@@ -48,12 +39,6 @@ part-moment-requires c κs =
     let g : getD (partsOf h) i pastPart ≡ getD (h .parts) i pastPart = getD-take (h .head .count) (h .parts) i pastPart (omega arith) in
     let k : partLimits (h .head .mode) (getD (h .parts) i pastPart) ≡ true = ap (partLimits (h .head .mode)) (sym g) ∙ all-at (partLimits (h .head .mode)) (partsOf h) i pastPart (v .0 .parts) (omega arith) in
     k
-
-enum-known-m : tie.Need-enum-known-m Inv-loop μ-loop
-enum-known-m c = search needs
-
-enum-told : tie.Need-enum-told Inv-loop μ-loop
-enum-told c = search needs
 
 returns : tie.Need-returns Inv-loop μ-loop
 unfolding partAnswer partsAnswer holdFits
@@ -79,12 +64,6 @@ add-sum c =
     let k : partLimits (h .head .mode) (getD (h .parts) i pastPart) ≡ true = ap (partLimits (h .head .mode)) (sym g) ∙ all-at (partLimits (h .head .mode)) (partsOf h) i pastPart (v .0 .parts) (omega arith) in
     let m = moment-of (partFits (h .head .mode) (getD (h .parts) i pastPart)) (partMoment (h .head .mode) (getD (h .parts) i pastPart)) (c .before .m .given .0 .0) (sym (c .before .m .given .1) ∙ c .before .before .before .part-moment .ensures) in
     omega (arith, moment-le (h .head .mode) (getD (h .parts) i pastPart) k, m .1)
-
-add-i : tie.Need-add-i Inv-loop μ-loop
-add-i c = search needs
-
-loop-less : tie.Need-loop-less Inv-loop μ-loop
-loop-less c = search needs
 
 loop-again : tie.Need-loop-again Inv-loop μ-loop
 unfolding partAnswer
@@ -124,16 +103,16 @@ parts-moment-spec =
     (tie.spec
     Inv-loop
     μ-loop
-    cast-n
+    (λ c. search needs)
     loop-holds
-    mul-p
-    element-copy-out-p
+    (λ c. search needs)
+    (λ c. search needs)
     part-moment-requires
-    enum-known-m
-    enum-told
+    (λ c. search needs)
+    (λ c. search needs)
     returns
     add-sum
-    add-i
-    loop-less
+    (λ c. search needs)
+    (λ c. search needs)
     loop-again
     returns-2)

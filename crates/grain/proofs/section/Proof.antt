@@ -16,9 +16,6 @@ Inv-loop p n s₀ i₀ s i = PartWithin p × (length (p .cells) ≡ 8) × (n ≡
 abbrev μ-loop : tie.MeasureT-loop
 μ-loop p n s₀ i₀ s i = n - i
 
-cast-n : tie.Need-cast-n Inv-loop μ-loop
-cast-n c = search needs
-
 loop-holds : tie.Need-loop-holds Inv-loop μ-loop
 loop-holds c =
     let p = c .args .t1 in
@@ -26,29 +23,11 @@ loop-holds c =
     let e : length (p .cells) ≡ 8 = search (unmapped, needs) in
     (w, e, refl, w .low, ahead-start (cellsOf p))
 
-add-loop : tie.Need-add-loop Inv-loop μ-loop
-add-loop c = search needs
-
-mul-slot : tie.Need-mul-slot Inv-loop μ-loop
-mul-slot c = search needs
-
-element-copy-out-slot : tie.Need-element-copy-out-slot Inv-loop μ-loop
-element-copy-out-slot c = search needs
-
-sizes-of-requires : tie.Need-sizes-of-requires Inv-loop μ-loop
-sizes-of-requires c κs = search needs
-
 inner-cell-requires : tie.Need-inner-cell-requires Inv-loop μ-loop
 inner-cell-requires c κs =
     let l = c .before .before .before in
     let v = l .loop .inv in
     rw (c .sizes-of .ensures) (part-room (l .before .args .t1) (v .0) (v .1) (l .loop .i) (l .loop .s) (v .4) (omega arith))
-
-add-i : tie.Need-add-i Inv-loop μ-loop
-add-i c = search needs
-
-loop-less : tie.Need-loop-less Inv-loop μ-loop
-loop-less c = search needs
 
 loop-again : tie.Need-loop-again Inv-loop μ-loop
 loop-again c =
@@ -61,15 +40,6 @@ loop-again c =
       rw (c .inner-cell .ensures, c .before .sizes-of .ensures)
           (part-next (l .before .args .t1) (v .0) (v .1) (l .loop .i) (l .loop .s) (v .4) (omega arith) (omega arith)),
     )
-
-mul-slot-2 : tie.Need-mul-slot-2 Inv-loop μ-loop
-mul-slot-2 c = search needs
-
-element-copy-out-slot-2 : tie.Need-element-copy-out-slot-2 Inv-loop μ-loop
-element-copy-out-slot-2 c = search needs
-
-sizes-of-requires-2 : tie.Need-sizes-of-requires-2 Inv-loop μ-loop
-sizes-of-requires-2 c κs = search needs
 
 last-cell-requires : tie.Need-last-cell-requires Inv-loop μ-loop
 last-cell-requires c κs =
@@ -93,18 +63,18 @@ section-spec =
     (tie.spec
     Inv-loop
     μ-loop
-    cast-n
+    (λ c. search needs)
     loop-holds
-    add-loop
-    mul-slot
-    element-copy-out-slot
-    sizes-of-requires
+    (λ c. search needs)
+    (λ c. search needs)
+    (λ c. search needs)
+    (λ c κs. search needs)
     inner-cell-requires
-    add-i
-    loop-less
+    (λ c. search needs)
+    (λ c. search needs)
     loop-again
-    mul-slot-2
-    element-copy-out-slot-2
-    sizes-of-requires-2
+    (λ c. search needs)
+    (λ c. search needs)
+    (λ c κs. search needs)
     last-cell-requires
     returns)

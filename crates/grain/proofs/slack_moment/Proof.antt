@@ -7,9 +7,6 @@ use borrow.Author.Needs.{needs}
 use Rattle.grain.proofs.slack_moment.Statement.{statement}
 use Rattle.grain.proofs.slack_moment.Tie as tie
 
-cast-breadth : tie.Need-cast-breadth
-cast-breadth c = search needs
-
 mul-divide-up : tie.Need-mul-divide-up
 mul-divide-up c = let x : c .before .args .p .breadth ≤ 65535 = omega arith in let xx = mul-le-mul x x in omega (arith, xx, mul-le-mul x xx)
 
@@ -30,7 +27,7 @@ pub slack-moment-spec : {M : Type 1} → statement M
 slack-moment-spec =
     tie.close
     (tie.spec
-    cast-breadth
+    (λ c. search needs)
     mul-divide-up
     mul-divide-up-2
     mul-divide-up-3

@@ -8,26 +8,11 @@ use borrow.Author.Needs.{needs}
 use Rattle.grain.proofs.with_kept.Statement.{statement}
 use Rattle.grain.proofs.with_kept.Tie as tie
 
-add-x : tie.Need-add-x
-add-x c = search needs
-
 mul-t6 : tie.Need-mul-t6
 mul-t6 c = let s = c .before .before in let r = s .pre .0 in let k : 2 * s .args .s .x + s .args .z .width ≤ 80000 = omega arith in let a : s .args .z .area ≤ 200000000 = omega arith in omega (arith, mul-le-mul (s .pre .1) (r .width), mul-le-mul a k)
 
 add-t7 : tie.Need-add-t7
 add-t7 c = let s = c .before .before .before in let r = s .pre .0 in let k : 2 * s .args .s .x + s .args .z .width ≤ 80000 = omega arith in let a : s .args .z .area ≤ 200000000 = omega arith in omega (arith, mul-le-mul (s .pre .1) (r .width), mul-le-mul a k)
-
-first-moment-requires : tie.Need-first-moment-requires
-first-moment-requires c κs = search needs
-
-add-t9 : tie.Need-add-t9
-add-t9 c = search needs
-
-mul-t10 : tie.Need-mul-t10
-mul-t10 c = search needs
-
-add-t11 : tie.Need-add-t11
-add-t11 c = search needs
 
 mul-t12 : tie.Need-mul-t12
 mul-t12 c = let s = c .before .before .before .before .before .before .before .before in let r = s .pre .0 in let k : 2 * s .args .s .x + s .args .z .width ≤ 80000 = omega arith in let a : s .args .z .area ≤ 200000000 = omega arith in omega (arith, mul-le-mul (s .pre .1) (r .width), mul-le-mul a k)
@@ -43,13 +28,13 @@ pub with-kept-spec : {M : Type 1} → statement M
 with-kept-spec =
     tie.close
     (tie.spec
-    add-x
+    (λ c. search needs)
     mul-t6
     add-t7
-    first-moment-requires
-    add-t9
-    mul-t10
-    add-t11
+    (λ c κs. search needs)
+    (λ c. search needs)
+    (λ c. search needs)
+    (λ c. search needs)
     mul-t12
     add-t13
     returns)

@@ -19,21 +19,6 @@ Inv-loop p n i₀ i = (n ≡ p .count) × (i ≤ n) × (all cellLimits (drop i (
 abbrev μ-loop : tie.MeasureT-loop
 μ-loop p n i₀ i = n - i
 
-cast-n : tie.Need-cast-n Inv-loop μ-loop
-cast-n c = search needs
-
-loop-holds : tie.Need-loop-holds Inv-loop μ-loop
-loop-holds c = search needs
-
-mul-s : tie.Need-mul-s Inv-loop μ-loop
-mul-s c = search needs
-
-element-copy-out-s : tie.Need-element-copy-out-s Inv-loop μ-loop
-element-copy-out-s c = search needs
-
-cell-limits-requires : tie.Need-cell-limits-requires Inv-loop μ-loop
-cell-limits-requires c κs = search needs
-
 returns : tie.Need-returns Inv-loop μ-loop
 returns c =
     let p = c .before .before .before .before .before .args .t1 in
@@ -42,12 +27,6 @@ returns c =
     let f : p .count ≤ length (p .cells) = omega arith in
     all-stop cellLimits (cellsOf p) i pastCell (c .before .before .before .before .loop .inv .2) (omega (arith, cells-length p f))
     (ap cellLimits (cell-at p f i (omega arith)) ∙ sym (c .before .cell-limits .ensures) ∙ not-true _ (c .if1 .taken))
-
-add-i : tie.Need-add-i Inv-loop μ-loop
-add-i c = search needs
-
-loop-less : tie.Need-loop-less Inv-loop μ-loop
-loop-less c = search needs
 
 loop-again : tie.Need-loop-again Inv-loop μ-loop
 loop-again c =
@@ -75,13 +54,13 @@ cells-within-spec =
     (tie.spec
     Inv-loop
     μ-loop
-    cast-n
-    loop-holds
-    mul-s
-    element-copy-out-s
-    cell-limits-requires
+    (λ c. search needs)
+    (λ c. search needs)
+    (λ c. search needs)
+    (λ c. search needs)
+    (λ c κs. search needs)
     returns
-    add-i
-    loop-less
+    (λ c. search needs)
+    (λ c. search needs)
     loop-again
     returns-2)

@@ -20,39 +20,20 @@ Inv-loop h mode n i₀ i = (mode ≡ h .head .mode) × (n ≡ h .head .count) ×
 abbrev μ-loop : tie.MeasureT-loop
 μ-loop h mode n i₀ i = n - i
 
-cast-n : tie.Need-cast-n Inv-loop μ-loop
-cast-n c = search needs
-
-loop-holds : tie.Need-loop-holds Inv-loop μ-loop
-loop-holds c = search needs
-
-mul-p : tie.Need-mul-p Inv-loop μ-loop
-mul-p c = search needs
-
-element-copy-out-p : tie.Need-element-copy-out-p Inv-loop μ-loop
-element-copy-out-p c = search needs
-
-part-limits-requires : tie.Need-part-limits-requires Inv-loop μ-loop
-part-limits-requires c κs = search needs
-
 returns : tie.Need-returns Inv-loop μ-loop
 returns c =
-    let h = c .before .before .before .before .before .before .before .args .t1 in
+    let args = c .before .before .before .before .before .before .before .args in
+    let h = args .t1 in
     let i = c .before .before .before .before .loop .i in
     let k : length (h .parts) ≡ 6 = search (unmapped, needs) in
     let t : length (partsOf h) ≡ h .head .count = length-take-le (h .head .count) (h .parts) (omega arith) in
     all-stop (partLimits (h .head .mode)) (partsOf h) i pastPart (c .before .before .before .before .loop .inv .3) (omega arith)
     (ap (partLimits (h .head .mode)) (getD-take (h .head .count) (h .parts) i pastPart (omega arith)) ∙ sym (c .before .part-limits .ensures) ∙ not-true _ (c .if1 .taken))
 
-add-i : tie.Need-add-i Inv-loop μ-loop
-add-i c = search needs
-
-loop-less : tie.Need-loop-less Inv-loop μ-loop
-loop-less c = search needs
-
 loop-again : tie.Need-loop-again Inv-loop μ-loop
 loop-again c =
-    let h = c .before .before .before .before .before .before .before .args .t1 in
+    let args = c .before .before .before .before .before .before .before .args in
+    let h = args .t1 in
     let i = c .before .before .before .before .loop .i in
     let k : length (h .parts) ≡ 6 = search (unmapped, needs) in
     let t : length (partsOf h) ≡ h .head .count = length-take-le (h .head .count) (h .parts) (omega arith) in (
@@ -77,13 +58,13 @@ parts-within-spec =
     (tie.spec
     Inv-loop
     μ-loop
-    cast-n
-    loop-holds
-    mul-p
-    element-copy-out-p
-    part-limits-requires
+    (λ c. search needs)
+    (λ c. search needs)
+    (λ c. search needs)
+    (λ c. search needs)
+    (λ c κs. search needs)
     returns
-    add-i
-    loop-less
+    (λ c. search needs)
+    (λ c. search needs)
     loop-again
     returns-2)

@@ -4,27 +4,6 @@ use borrow.Author.Needs.{needs}
 use Rattle.hold_limits.proofs.slack_limits.Statement.{statement}
 use Rattle.hold_limits.proofs.slack_limits.Tie as tie
 
-is-within-requires : tie.Need-is-within-requires
-is-within-requires c κs = search needs
-
-is-within-requires-2 : tie.Need-is-within-requires-2
-is-within-requires-2 c κs = search needs
-
-both-requires : tie.Need-both-requires
-both-requires c κs = search needs
-
-is-within-requires-3 : tie.Need-is-within-requires-3
-is-within-requires-3 c κs = search needs
-
-both-requires-2 : tie.Need-both-requires-2
-both-requires-2 c κs = search needs
-
-is-within-requires-4 : tie.Need-is-within-requires-4
-is-within-requires-4 c κs = search needs
-
-both-requires-3 : tie.Need-both-requires-3
-both-requires-3 c κs = search needs
-
 returns : tie.Need-returns
 unfolding slackLimits
 returns c = cc
@@ -33,11 +12,11 @@ pub slack-limits-spec : {M : Type 1} → statement M
 slack-limits-spec =
     tie.close
     (tie.spec
-    is-within-requires
-    is-within-requires-2
-    both-requires
-    is-within-requires-3
-    both-requires-2
-    is-within-requires-4
-    both-requires-3
+    (λ c κs. search needs)
+    (λ c κs. search needs)
+    (λ c κs. search needs)
+    (λ c κs. search needs)
+    (λ c κs. search needs)
+    (λ c κs. search needs)
+    (λ c κs. search needs)
     returns)

@@ -17,33 +17,6 @@ Inv-loop p n sum₀ i₀ sum i = (n ≡ p .count) × (i ≤ n) × (sum + sumOf c
 abbrev μ-loop : tie.MeasureT-loop
 μ-loop p n sum₀ i₀ sum i = n - i
 
-cast-n : tie.Need-cast-n Inv-loop μ-loop
-cast-n c = search needs
-
-loop-holds : tie.Need-loop-holds Inv-loop μ-loop
-loop-holds c = search needs
-
-mul-s : tie.Need-mul-s Inv-loop μ-loop
-mul-s c = search needs
-
-element-copy-out-s : tie.Need-element-copy-out-s Inv-loop μ-loop
-element-copy-out-s c = search needs
-
-width-of-requires : tie.Need-width-of-requires Inv-loop μ-loop
-width-of-requires c κs = search needs
-
-wide-requires : tie.Need-wide-requires Inv-loop μ-loop
-wide-requires c κs = search needs
-
-add-sum : tie.Need-add-sum Inv-loop μ-loop
-add-sum c = search needs
-
-add-i : tie.Need-add-i Inv-loop μ-loop
-add-i c = search needs
-
-loop-less : tie.Need-loop-less Inv-loop μ-loop
-loop-less c = search needs
-
 loop-again : tie.Need-loop-again Inv-loop μ-loop
 loop-again c =
     let p = c .before .before .before .before .before .args .t1 in
@@ -67,14 +40,14 @@ width-together-spec =
     (tie.spec
     Inv-loop
     μ-loop
-    cast-n
-    loop-holds
-    mul-s
-    element-copy-out-s
-    width-of-requires
-    wide-requires
-    add-sum
-    add-i
-    loop-less
+    (λ c. search needs)
+    (λ c. search needs)
+    (λ c. search needs)
+    (λ c. search needs)
+    (λ c κs. search needs)
+    (λ c κs. search needs)
+    (λ c. search needs)
+    (λ c. search needs)
+    (λ c. search needs)
     loop-again
     returns)

@@ -5,21 +5,6 @@ use borrow.Author.Needs.{needs}
 use Rattle.items.proofs.ends_at.Statement.{statement}
 use Rattle.items.proofs.ends_at.Tie as tie
 
-next-at-requires : tie.Need-next-at-requires
-next-at-requires c κs = search needs
-
-enum-told : tie.Need-enum-told
-enum-told c = search needs
-
-enum-told-2 : tie.Need-enum-told-2
-enum-told-2 c = search needs
-
-enum-told-3 : tie.Need-enum-told-3
-enum-told-3 c = search needs
-
-enum-told-4 : tie.Need-enum-told-4
-enum-told-4 c = search needs
-
 returns : tie.Need-returns
 unfolding isEnd
 returns c = let n = next-by _ _ (c .before .before .next-at .ensures) (c .enum-told .given .1) in rw (n .0)
@@ -40,11 +25,11 @@ pub ends-at-spec : {M : Type 1} → statement M
 ends-at-spec =
     tie.close
     (tie.spec
-    next-at-requires
-    enum-told
-    enum-told-2
-    enum-told-3
-    enum-told-4
+    (λ c κs. search needs)
+    (λ c. search needs)
+    (λ c. search needs)
+    (λ c. search needs)
+    (λ c. search needs)
     returns
     returns-2
     returns-3

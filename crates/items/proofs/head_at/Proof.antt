@@ -5,15 +5,6 @@ use borrow.Author.Needs.{needs}
 use Rattle.items.proofs.head_at.Statement.{statement}
 use Rattle.items.proofs.head_at.Tie as tie
 
-open-at-requires : tie.Need-open-at-requires
-open-at-requires c κs = search needs
-
-enum-known-p : tie.Need-enum-known-p
-enum-known-p c = search needs
-
-enum-told : tie.Need-enum-told
-enum-told c = search needs
-
 returns : tie.Need-returns
 unfolding head?
 returns c = let n = rw (c .enum-told .given .1) at (c .before .before .open-at .ensures) in rw n
@@ -29,4 +20,4 @@ returns-2 c =
 
 pub head-at-spec : {M : Type 1} → statement M
 head-at-spec =
-    tie.close (tie.spec open-at-requires enum-known-p enum-told returns span-at-requires returns-2)
+    tie.close (tie.spec (λ c κs. search needs) (λ c. search needs) (λ c. search needs) returns span-at-requires returns-2)

@@ -5,21 +5,6 @@ use borrow.Author.Needs.{needs}
 use Rattle.items.proofs.open_at.Statement.{statement}
 use Rattle.items.proofs.open_at.Tie as tie
 
-next-at-requires : tie.Need-next-at-requires
-next-at-requires c κs = search needs
-
-enum-known-t : tie.Need-enum-known-t
-enum-known-t c = search needs
-
-enum-told : tie.Need-enum-told
-enum-told c = search needs
-
-enum-told-2 : tie.Need-enum-told-2
-enum-told-2 c = search needs
-
-enum-told-3 : tie.Need-enum-told-3
-enum-told-3 c = search needs
-
 returns : tie.Need-returns
 unfolding open?
 returns c = let n = next-by _ _ (c .before .before .before .next-at .ensures) (c .before .t .given .1) in (rw (n .0), n .1)
@@ -40,11 +25,11 @@ pub open-at-spec : {M : Type 1} → statement M
 open-at-spec =
     tie.close
     (tie.spec
-    next-at-requires
-    enum-known-t
-    enum-told
-    enum-told-2
-    enum-told-3
+    (λ c κs. search needs)
+    (λ c. search needs)
+    (λ c. search needs)
+    (λ c. search needs)
+    (λ c. search needs)
     returns
     returns-2
     returns-3

@@ -27,45 +27,37 @@ loop-holds c =
 size-at-requires : tie.Need-size-at-requires Inv-loop μ-loop
 size-at-requires c κs = c .before .loop .inv .1
 
-enum-known-v : tie.Need-enum-known-v Inv-loop μ-loop
-enum-known-v c = search needs
-
-enum-told : tie.Need-enum-told Inv-loop μ-loop
-enum-told c = search needs
-
 returns : tie.Need-returns Inv-loop μ-loop
 returns c =
-    let s = c .before .before .before .before .before .before .args .s .now in
-    let w = c .before .before .before .before .before .before .args .want in
-    let i = c .before .before .before .before .loop .i in
+    let loop = c .before .before .before .before .loop in
+    let args = c .before .before .before .before .before .before .args in
+    let s = args .s .now in
+    let w = args .want in
+    let i = loop .i in
     let n = rw (c .enum-told .given .1) at (c .before .before .size-at .ensures) in
-    c .before .before .before .before .loop .inv .3 ∙ rw (sizes-stop (w - i) (tokens (drop (c .before .before .before .before .loop .p) s)) (omega arith) n)
-
-mul-values : tie.Need-mul-values Inv-loop μ-loop
-mul-values c = search needs
+    loop .inv .3 ∙ rw (sizes-stop (w - i) (tokens (drop (loop .p) s)) (omega arith) n)
 
 array-write-values : tie.Need-array-write-values Inv-loop μ-loop
-array-write-values c = omega (arith, c .before .before .before .before .before .before .before .pre)
-
-add-i : tie.Need-add-i Inv-loop μ-loop
-add-i c = search needs
-
-loop-less : tie.Need-loop-less Inv-loop μ-loop
-loop-less c = search needs
+array-write-values c =
+    let pre = c .before .before .before .before .before .before .before .pre in
+    omega (arith, pre)
 
 loop-again : tie.Need-loop-again Inv-loop μ-loop
 loop-again c =
-    let s = c .before .before .before .before .before .before .before .args .s .now in
-    let w = c .before .before .before .before .before .before .before .args .want in
-    let i = c .before .before .before .before .before .loop .i in
-    let vs = c .before .before .before .before .before .loop .values in
+    let loop = c .before .before .before .before .before .loop in
+    let args = c .before .before .before .before .before .before .before .args in
+    let pre = c .before .before .before .before .before .before .before .pre in
+    let s = args .s .now in
+    let w = args .want in
+    let i = loop .i in
+    let vs = loop .values in
     let v = c .before .v .given .0 .0 in
     let q = c .before .v .given .0 .1 .0 in
     let n = rw (c .before .v .given .1) at (c .before .before .before .size-at .ensures) in
     let k : w - i - 1 ≡ w - (i + 1) = omega arith in
-    let m = sizes-next (w - i) (tokens (drop (c .before .before .before .before .before .loop .p) s)) v (tokens (drop q s)) (omega arith) (n .0) in
-    let t : take (i + 1) (set vs i v) ≡ take i vs ++ v ∷ [] = rw (add-one, take-suc-set vs i v (omega (arith, c .before .before .before .before .before .before .before .pre))) in
-    (omega arith, n .1, simp length-set (c .before .before .before .before .before .loop .inv .2), c .before .before .before .before .before .loop .inv .3 ∙ rw (m, k, t) (sym (ahead-one (take i vs) v (sizes (w - (i + 1)) (tokens (drop q s))))))
+    let m = sizes-next (w - i) (tokens (drop (loop .p) s)) v (tokens (drop q s)) (omega arith) (n .0) in
+    let t : take (i + 1) (set vs i v) ≡ take i vs ++ v ∷ [] = rw (add-one, take-suc-set vs i v (omega (arith, pre))) in
+    (omega arith, n .1, simp length-set (loop .inv .2), loop .inv .3 ∙ rw (m, k, t) (sym (ahead-one (take i vs) v (sizes (w - (i + 1)) (tokens (drop q s))))))
 
 close-at-requires : tie.Need-close-at-requires Inv-loop μ-loop
 close-at-requires c κs = omega arith
@@ -86,13 +78,13 @@ sizes-at-spec =
     μ-loop
     loop-holds
     size-at-requires
-    enum-known-v
-    enum-told
+    (λ c. search needs)
+    (λ c. search needs)
     returns
-    mul-values
+    (λ c. search needs)
     array-write-values
-    add-i
-    loop-less
+    (λ c. search needs)
+    (λ c. search needs)
     loop-again
     close-at-requires
     returns-2)

@@ -7,12 +7,6 @@ use borrow.Author.Needs.{needs}
 use Rattle.judging.proofs.enough_columns.Statement.{statement}
 use Rattle.judging.proofs.enough_columns.Tie as tie
 
-in-order-requires : tie.Need-in-order-requires
-in-order-requires c κs = search needs
-
-both-requires : tie.Need-both-requires
-both-requires c κs = search needs
-
 returns : tie.Need-returns
 returns c =
     let cs = c .before .before .before .args .cs in
@@ -20,4 +14,4 @@ returns c =
     rw (c .both .ensures, c .before .in-order .ensures, two-held cs l)
 
 pub enough-columns-spec : {M : Type 1} → statement M
-enough-columns-spec = tie.close (tie.spec in-order-requires both-requires returns)
+enough-columns-spec = tie.close (tie.spec (λ c κs. search needs) (λ c κs. search needs) returns)

@@ -12,20 +12,11 @@ use borrow.Author.Needs.{needs}
 use Rattle.judging.proofs.judge.Statement.{statement}
 use Rattle.judging.proofs.judge.Tie as tie
 
-ship-limits-requires : tie.Need-ship-limits-requires
-ship-limits-requires c κs = search needs
-
-both-requires : tie.Need-both-requires
-both-requires c κs = search needs
-
 returns : tie.Need-returns
 unfolding judgedOf
 returns c =
     let a = sym (rw (c .before .before .ship-limits .ensures) at (c .before .both .ensures)) ∙ not-true _ (c .if1 .taken) in
     rw a
-
-enough-columns-requires : tie.Need-enough-columns-requires
-enough-columns-requires c κs = search needs
 
 returns-2 : tie.Need-returns-2
 unfolding judgedOf
@@ -34,12 +25,6 @@ returns-2 c =
     let a = sym (rw (k .before .before .ship-limits .ensures) at (k .before .both .ensures)) ∙ not-false _ (k .if1 .left) in
     let b = sym (c .before .enough-columns .ensures) ∙ not-true _ (c .if2 .taken) in
     rw (a, b)
-
-load-limits-requires : tie.Need-load-limits-requires
-load-limits-requires c κs = search needs
-
-both-requires-2 : tie.Need-both-requires-2
-both-requires-2 c κs = search needs
 
 returns-3 : tie.Need-returns-3
 unfolding judgedOf
@@ -50,15 +35,6 @@ returns-3 c =
     let b = sym (m .before .enough-columns .ensures) ∙ not-false _ (m .if2 .left) in
     let d = sym (rw (c .before .before .load-limits .ensures) at (c .before .both2 .ensures)) ∙ not-true _ (c .if3 .taken) in
     rw (a, b, d)
-
-columns-around-requires : tie.Need-columns-around-requires
-columns-around-requires c κs = search needs
-
-enum-known-around : tie.Need-enum-known-around
-enum-known-around c = search needs
-
-enum-told : tie.Need-enum-told
-enum-told c = search needs
 
 returns-4 : tie.Need-returns-4
 unfolding judgedOf
@@ -73,7 +49,8 @@ returns-4 c =
 
 judge-between-requires : tie.Need-judge-between-requires
 judge-between-requires c κs =
-    let k = c .before .before .before .before .before .before .before .before .before .before .before .before .before .before .before .args .c in
+    let args = c .before .before .before .before .before .before .before .before .before .before .before .before .before .before .before .args in
+    let k = args .c in
     let cs = k .columns in
     let l : length (cs .places) ≡ 20 = search (unmapped, needs) in
     let n = c .before .before .before .before in
@@ -102,17 +79,17 @@ pub judge-spec : {M : Type 1} → statement M
 judge-spec =
     tie.close
     (tie.spec
-    ship-limits-requires
-    both-requires
+    (λ c κs. search needs)
+    (λ c κs. search needs)
     returns
-    enough-columns-requires
+    (λ c κs. search needs)
     returns-2
-    load-limits-requires
-    both-requires-2
+    (λ c κs. search needs)
+    (λ c κs. search needs)
     returns-3
-    columns-around-requires
-    enum-known-around
-    enum-told
+    (λ c κs. search needs)
+    (λ c. search needs)
+    (λ c. search needs)
     returns-4
     judge-between-requires
     returns-5)

@@ -8,15 +8,6 @@ use borrow.Author.Needs.{needs}
 use Rattle.judging.proofs.judge_between.Statement.{statement}
 use Rattle.judging.proofs.judge_between.Tie as tie
 
-weights-of-requires : tie.Need-weights-of-requires
-weights-of-requires c κs = search needs
-
-enum-known-weight : tie.Need-enum-known-weight
-enum-known-weight c = search needs
-
-enum-told : tie.Need-enum-told
-enum-told c = search needs
-
 returns : tie.Need-returns
 returns c = rw (weights-refused (c .before .before .before .before .args .c .holds) (sym (c .before .before .weights-of .ensures) ∙ c .enum-told .given .1))
 
@@ -47,12 +38,6 @@ element-copy-out-second : tie.Need-element-copy-out-second
 element-copy-out-second c =
     let k = c .before .before .before .before .before .before .before in
     omega (arith, between-places (k .args .c) (k .args .i) (k .pre) .below)
-
-of-ten-requires : tie.Need-of-ten-requires
-of-ten-requires c κs = search needs
-
-of-ten-requires-2 : tie.Need-of-ten-requires-2
-of-ten-requires-2 c κs = search needs
 
 judge-requires : tie.Need-judge-requires
 judge-requires c κs =
@@ -86,16 +71,16 @@ pub judge-between-spec : {M : Type 1} → statement M
 judge-between-spec =
     tie.close
     (tie.spec
-    weights-of-requires
-    enum-known-weight
-    enum-told
+    (λ c κs. search needs)
+    (λ c. search needs)
+    (λ c. search needs)
     returns
     mul-first
     element-copy-out-first
     add-second
     mul-second
     element-copy-out-second
-    of-ten-requires
-    of-ten-requires-2
+    (λ c κs. search needs)
+    (λ c κs. search needs)
     judge-requires
     returns-2)

@@ -9,33 +9,24 @@ use Rattle.judging.proofs.place_weight.Tie as tie
 returns : tie.Need-returns
 returns c = place-empty (c .before .before .before .args .h) (c .if1 .taken)
 
-weigh-requires : tie.Need-weigh-requires
-weigh-requires c κs = search needs
-
-enum-known-w : tie.Need-enum-known-w
-enum-known-w c = search needs
-
-enum-told : tie.Need-enum-told
-enum-told c = search needs
-
-enum-told-2 : tie.Need-enum-told-2
-enum-told-2 c = search needs
-
 returns-2 : tie.Need-returns-2
 returns-2 c =
-    let h = c .before .before .before .before .before .before .before .args .h in
+    let args = c .before .before .before .before .before .before .before .args in
+    let h = args .h in
     let some : 0 < h .head .count = search needs in
     place-weighed h some _ (sym (c .before .before .before .weigh .ensures) ∙ c .before .w .given .1)
 
 returns-3 : tie.Need-returns-3
 returns-3 c =
-    let h = c .before .before .before .before .before .before .args .h in
+    let args = c .before .before .before .before .before .before .args in
+    let h = args .h in
     let some : 0 < h .head .count = search needs in
     place-limits h some (sym (c .before .before .weigh .ensures) ∙ c .enum-told .given .1)
 
 returns-4 : tie.Need-returns-4
 returns-4 c =
-    let h = c .before .before .before .before .before .before .args .h in
+    let args = c .before .before .before .before .before .before .args in
+    let h = args .h in
     let some : 0 < h .head .count = search needs in
     place-no-fit h some (sym (c .before .before .weigh .ensures) ∙ c .enum-told2 .given .1)
 
@@ -44,10 +35,10 @@ place-weight-spec =
     tie.close
     (tie.spec
     returns
-    weigh-requires
-    enum-known-w
-    enum-told
-    enum-told-2
+    (λ c κs. search needs)
+    (λ c. search needs)
+    (λ c. search needs)
+    (λ c. search needs)
     returns-2
     returns-3
     returns-4)

@@ -4,12 +4,9 @@ use borrow.Author.Needs.{needs}
 use Rattle.limits.proofs.place_limits.Statement.{statement}
 use Rattle.limits.proofs.place_limits.Tie as tie
 
-both-requires : tie.Need-both-requires
-both-requires c κs = search needs
-
 returns : tie.Need-returns
 unfolding within
 returns c = c .both .ensures
 
 pub place-limits-spec : {M : Type 1} → statement M
-place-limits-spec = tie.close (tie.spec both-requires returns)
+place-limits-spec = tie.close (tie.spec (λ c κs. search needs) returns)

@@ -16,26 +16,8 @@ Inv-loop kn i₀ i = (i ≤ 10) × (all (within 0 50000) (drop i kn) ≡ all (wi
 abbrev μ-loop : tie.MeasureT-loop
 μ-loop kn i₀ i = 10 - i
 
-loop-holds : tie.Need-loop-holds Inv-loop μ-loop
-loop-holds c = search needs
-
-mul-is-within : tie.Need-mul-is-within Inv-loop μ-loop
-mul-is-within c = search needs
-
-array-read-is-within : tie.Need-array-read-is-within Inv-loop μ-loop
-array-read-is-within c = search needs
-
-is-within-requires : tie.Need-is-within-requires Inv-loop μ-loop
-is-within-requires c κs = search needs
-
 returns : tie.Need-returns Inv-loop μ-loop
 returns c = all-stop (within 0 50000) (c .before .before .before .before .args .t1) (c .before .before .before .loop .i) 0 (c .before .before .before .loop .inv .1) (omega arith) (sym (c .before .is-within .ensures) ∙ not-true _ (c .if1 .taken))
-
-add-i : tie.Need-add-i Inv-loop μ-loop
-add-i c = search needs
-
-loop-less : tie.Need-loop-less Inv-loop μ-loop
-loop-less c = search needs
 
 loop-again : tie.Need-loop-again Inv-loop μ-loop
 loop-again c = (search needs, all-go (within 0 50000) (c .before .before .before .before .args .t1) (c .before .before .before .loop .i) 0 (c .before .before .before .loop .inv .1) (omega arith) (sym (c .before .is-within .ensures) ∙ not-false _ (c .if1 .left)))
@@ -49,12 +31,12 @@ values-within-spec =
     (tie.spec
     Inv-loop
     μ-loop
-    loop-holds
-    mul-is-within
-    array-read-is-within
-    is-within-requires
+    (λ c. search needs)
+    (λ c. search needs)
+    (λ c. search needs)
+    (λ c κs. search needs)
     returns
-    add-i
-    loop-less
+    (λ c. search needs)
+    (λ c. search needs)
     loop-again
     returns-2)

@@ -9,40 +9,27 @@ use borrow.Author.Needs.{needs}
 use Rattle.lines.proofs.answer_line.Statement.{statement}
 use Rattle.lines.proofs.answer_line.Tie as tie
 
-sub-answer : tie.Need-sub-answer
-sub-answer c = search needs
-
-part-answer-start : tie.Need-part-answer-start
-part-answer-start c = search needs
-
-part-answer-end : tie.Need-part-answer-end
-part-answer-end c = search needs
-
-answer-requires : tie.Need-answer-requires
-answer-requires c κs = search needs
-
-same-length : tie.Need-same-length
-same-length c = search needs
-
 returns : tie.Need-returns
 returns c =
-    let l = c .before .before .before .before .before .args .out .now in
-    let n = c .before .before .before .before .before .args .filled in
+    let args = c .before .before .before .before .before .args in
+    let pre = c .before .before .before .before .before .pre in
+    let l = args .out .now in
+    let n = args .filled in
     let part = take (length l - n) (drop n l) in
     let d = length-drop n l in
     let m = length-take-le (length l - n) (drop n l) (omega arith) in
-    let r : 96 ≤ length part = omega (arith, c .before .before .before .before .before .pre) in
+    let r : 96 ≤ length part = omega (arith, pre) in
     let e = c .before .before .answer .ensures in
-    let a = any-room (c .before .before .before .before .before .args .c) (c .before .before .before .before .before .args .h) (length part) r in
+    let a = any-room (args .c) (args .h) (length part) r in
     let w = over-fits _ part _ (e .written) (c .before .before .answer .kept .1 .1 .0) in
     rw (← a)
     (record {
       coded = e .coded;
-      room = omega (arith, e .long, w, m, c .before .before .before .before .before .pre);
-      waits = rw (e .written) (reply-waits l part _ _ n _ (omega (arith, c .before .before .before .before .before .pre)) (e .long));
+      room = omega (arith, e .long, w, m, pre);
+      waits = rw (e .written) (reply-waits l part _ _ n _ (omega (arith, pre)) (e .long));
     })
 
 pub answer-line-spec : {M : Type 1} → statement M
 answer-line-spec =
     tie.close
-    (tie.spec sub-answer part-answer-start part-answer-end answer-requires same-length returns)
+    (tie.spec (λ c. search needs) (λ c. search needs) (λ c. search needs) (λ c κs. search needs) (λ c. search needs) returns)

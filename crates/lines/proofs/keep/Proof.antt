@@ -19,9 +19,6 @@ abbrev μ-loop : tie.MeasureT-loop
 loop-holds : tie.Need-loop-holds Inv-loop μ-loop
 loop-holds c = (omega arith, omega arith, c .pre .0, c .pre .1, c .pre .1, sym (append-nil (take (c .args .used) (c .args .line .now))))
 
-same-length : tie.Need-same-length Inv-loop μ-loop
-same-length c = search needs
-
 returns : tie.Need-returns Inv-loop μ-loop
 returns c =
     let s = c .before .before .before in
@@ -29,30 +26,12 @@ returns c =
     let n = length-take-le (s .args .used) (s .args .line .now) (omega (arith, s .pre)) in
     (v .5 ∙ kept-all (take (s .args .used) (s .args .line .now)) (s .args .piece .now) 2001 (c .before .before .loop .i) (omega arith), v .2)
 
-shared-slice-read-line : tie.Need-shared-slice-read-line Inv-loop μ-loop
-shared-slice-read-line c = search needs
-
-slice-write-line : tie.Need-slice-write-line Inv-loop μ-loop
-slice-write-line c = search needs
-
-add-u : tie.Need-add-u Inv-loop μ-loop
-add-u c = search needs
-
-add-i : tie.Need-add-i Inv-loop μ-loop
-add-i c = search needs
-
-loop-less : tie.Need-loop-less Inv-loop μ-loop
-loop-less c = search needs
-
 loop-again : tie.Need-loop-again Inv-loop μ-loop
 loop-again c =
     let a = c .before .before .before .before .args in
     let l = c .before .before .before .loop in
     let v = l .inv in
     (omega arith, omega arith, omega arith, simp length-set (v .3), v .4, kept-more (l .line) (take (a .used) (a .line .now)) (a .piece .now) (l .u) (l .i) (omega arith) (omega arith) (v .5))
-
-same-length-2 : tie.Need-same-length-2 Inv-loop μ-loop
-same-length-2 c = search needs
 
 returns-2 : tie.Need-returns-2 Inv-loop μ-loop
 returns-2 c =
@@ -68,13 +47,13 @@ keep-spec =
     Inv-loop
     μ-loop
     loop-holds
-    same-length
+    (λ c. search needs)
     returns
-    shared-slice-read-line
-    slice-write-line
-    add-u
-    add-i
-    loop-less
+    (λ c. search needs)
+    (λ c. search needs)
+    (λ c. search needs)
+    (λ c. search needs)
+    (λ c. search needs)
     loop-again
-    same-length-2
+    (λ c. search needs)
     returns-2)

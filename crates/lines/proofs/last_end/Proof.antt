@@ -15,24 +15,12 @@ Inv-loop block at e₀ e = (at ≤ e) × (e ≤ length block) × (e + lineLength
 abbrev μ-loop : tie.MeasureT-loop
 μ-loop block at e₀ e = length block - e
 
-loop-holds : tie.Need-loop-holds Inv-loop μ-loop
-loop-holds c = search needs
-
-shared-slice-read-if1 : tie.Need-shared-slice-read-if1 Inv-loop μ-loop
-shared-slice-read-if1 c = search needs
-
 returns : tie.Need-returns Inv-loop μ-loop
 returns c =
     let s = c .before .before .before .before .args .block .now in
     let i = c .before .before .before .loop .e in
     let z = line-stop s i (omega arith) (c .if1 .taken) in
     (omega arith, omega arith)
-
-add-e : tie.Need-add-e Inv-loop μ-loop
-add-e c = search needs
-
-loop-less : tie.Need-loop-less Inv-loop μ-loop
-loop-less c = search needs
 
 loop-again : tie.Need-loop-again Inv-loop μ-loop
 loop-again c =
@@ -54,10 +42,10 @@ last-end-spec =
     (tie.spec
     Inv-loop
     μ-loop
-    loop-holds
-    shared-slice-read-if1
+    (λ c. search needs)
+    (λ c. search needs)
     returns
-    add-e
-    loop-less
+    (λ c. search needs)
+    (λ c. search needs)
     loop-again
     returns-2)

@@ -15,15 +15,6 @@ Inv-loop block at e₀ e = (at ≤ e) × (e ≤ length block) × (e + lineLength
 abbrev μ-loop : tie.MeasureT-loop
 μ-loop block at e₀ e = length block - e
 
-loop-holds : tie.Need-loop-holds Inv-loop μ-loop
-loop-holds c = search needs
-
-sub-loop : tie.Need-sub-loop Inv-loop μ-loop
-sub-loop c = search needs
-
-shared-slice-read-if1 : tie.Need-shared-slice-read-if1 Inv-loop μ-loop
-shared-slice-read-if1 c = search needs
-
 returns : tie.Need-returns Inv-loop μ-loop
 returns c =
     let s = c .before .before .before .before .before .args .block .now in
@@ -32,73 +23,58 @@ returns c =
     let z = line-stop s (i) (omega arith) (c .if1 .taken) in
     (omega arith, omega arith)
 
-add-second : tie.Need-add-second Inv-loop μ-loop
-add-second c = search needs
-
-shared-slice-read-if2 : tie.Need-shared-slice-read-if2 Inv-loop μ-loop
-shared-slice-read-if2 c = search needs
-
 returns-2 : tie.Need-returns-2 Inv-loop μ-loop
 returns-2 c =
-    let s = c .before .before .before .before .before .before .before .args .block .now in
+    let args = c .before .before .before .before .before .before .before .args in
+    let s = args .block .now in
     let i = c .before .before .before .before .before .loop .e in
     let n = c .before .before .before .before .loop-test .taken in
     let z1 = line-on s (i) (omega arith) (c .before .before .if1 .left) in
     let z = line-stop s (i + 1) (omega arith) (c .if2 .taken) in
     (omega arith, omega arith)
 
-add-third : tie.Need-add-third Inv-loop μ-loop
-add-third c = search needs
-
-shared-slice-read-if3 : tie.Need-shared-slice-read-if3 Inv-loop μ-loop
-shared-slice-read-if3 c = search needs
-
 returns-3 : tie.Need-returns-3 Inv-loop μ-loop
 returns-3 c =
-    let s = c .before .before .before .before .before .before .before .before .before .args .block .now in
-    let i = c .before .before .before .before .before .before .before .loop .e in
-    let n = c .before .before .before .before .before .before .loop-test .taken in
+    let loop-test = c .before .before .before .before .before .before .loop-test in
+    let loop = c .before .before .before .before .before .before .before .loop in
+    let args = c .before .before .before .before .before .before .before .before .before .args in
+    let s = args .block .now in
+    let i = loop .e in
+    let n = loop-test .taken in
     let z1 = line-on s (i) (omega arith) (c .before .before .before .before .if1 .left) in
     let z2 = line-on s (i + 1) (omega arith) (c .before .before .if2 .left) in
     let z = line-stop s (i + 1 + 1) (omega arith) (c .if3 .taken) in
     (omega arith, omega arith)
 
-add-fourth : tie.Need-add-fourth Inv-loop μ-loop
-add-fourth c = search needs
-
-shared-slice-read-if4 : tie.Need-shared-slice-read-if4 Inv-loop μ-loop
-shared-slice-read-if4 c = search needs
-
 returns-4 : tie.Need-returns-4 Inv-loop μ-loop
 returns-4 c =
-    let s = c .before .before .before .before .before .before .before .before .before .before .before .args .block .now in
-    let i = c .before .before .before .before .before .before .before .before .before .loop .e in
-    let n = c .before .before .before .before .before .before .before .before .loop-test .taken in
-    let z1 = line-on s (i) (omega arith) (c .before .before .before .before .before .before .if1 .left) in
+    let if1 = c .before .before .before .before .before .before .if1 in
+    let loop-test = c .before .before .before .before .before .before .before .before .loop-test in
+    let loop = c .before .before .before .before .before .before .before .before .before .loop in
+    let args = c .before .before .before .before .before .before .before .before .before .before .before .args in
+    let s = args .block .now in
+    let i = loop .e in
+    let n = loop-test .taken in
+    let z1 = line-on s (i) (omega arith) (if1 .left) in
     let z2 = line-on s (i + 1) (omega arith) (c .before .before .before .before .if2 .left) in
     let z3 = line-on s (i + 1 + 1) (omega arith) (c .before .before .if3 .left) in
     let z = line-stop s (i + 1 + 1 + 1) (omega arith) (c .if4 .taken) in
     (omega arith, omega arith)
 
-add-e : tie.Need-add-e Inv-loop μ-loop
-add-e c = search needs
-
-loop-less : tie.Need-loop-less Inv-loop μ-loop
-loop-less c = search needs
-
 loop-again : tie.Need-loop-again Inv-loop μ-loop
 loop-again c =
-    let s = c .before .before .before .before .before .before .before .before .before .before .before .args .block .now in
-    let i = c .before .before .before .before .before .before .before .before .before .loop .e in
-    let n = c .before .before .before .before .before .before .before .before .loop-test .taken in
-    let z1 = line-on s (i) (omega arith) (c .before .before .before .before .before .before .if1 .left) in
+    let if1 = c .before .before .before .before .before .before .if1 in
+    let loop-test = c .before .before .before .before .before .before .before .before .loop-test in
+    let loop = c .before .before .before .before .before .before .before .before .before .loop in
+    let args = c .before .before .before .before .before .before .before .before .before .before .before .args in
+    let s = args .block .now in
+    let i = loop .e in
+    let n = loop-test .taken in
+    let z1 = line-on s (i) (omega arith) (if1 .left) in
     let z2 = line-on s (i + 1) (omega arith) (c .before .before .before .before .if2 .left) in
     let z3 = line-on s (i + 1 + 1) (omega arith) (c .before .before .if3 .left) in
     let z4 = line-on s (i + 1 + 1 + 1) (omega arith) (c .if4 .left) in
     (omega arith, omega arith, omega arith)
-
-last-end-requires : tie.Need-last-end-requires Inv-loop μ-loop
-last-end-requires c κs = search needs
 
 returns-5 : tie.Need-returns-5 Inv-loop μ-loop
 returns-5 c =
@@ -112,21 +88,21 @@ line-end-spec =
     (tie.spec
     Inv-loop
     μ-loop
-    loop-holds
-    sub-loop
-    shared-slice-read-if1
+    (λ c. search needs)
+    (λ c. search needs)
+    (λ c. search needs)
     returns
-    add-second
-    shared-slice-read-if2
+    (λ c. search needs)
+    (λ c. search needs)
     returns-2
-    add-third
-    shared-slice-read-if3
+    (λ c. search needs)
+    (λ c. search needs)
     returns-3
-    add-fourth
-    shared-slice-read-if4
+    (λ c. search needs)
+    (λ c. search needs)
     returns-4
-    add-e
-    loop-less
+    (λ c. search needs)
+    (λ c. search needs)
     loop-again
-    last-end-requires
+    (λ c κs. search needs)
     returns-5)

@@ -8,26 +8,11 @@ use borrow.Author.Needs.{needs}
 use Rattle.lines.proofs.take_begun.Statement.{statement}
 use Rattle.lines.proofs.take_begun.Tie as tie
 
-slice-write-line : tie.Need-slice-write-line
-slice-write-line c = search needs
-
-add-end : tie.Need-add-end
-add-end c = search needs
-
 slice-reshare-prefix-take-lines : tie.Need-slice-reshare-prefix-take-lines
 slice-reshare-prefix-take-lines c = simp length-set (omega (arith, c .before .before .pre))
 
 slice-aggregate-take-lines : tie.Need-slice-aggregate-take-lines
 slice-aggregate-take-lines c = sym (length-take-le _ _ (simp length-set (omega (arith, c .before .before .before .pre))))
-
-take-lines-requires : tie.Need-take-lines-requires
-take-lines-requires c κs = search needs
-
-same-length : tie.Need-same-length
-same-length c = search needs
-
-same-length-2 : tie.Need-same-length-2
-same-length-2 c = search needs
 
 returns : tie.Need-returns
 returns c =
@@ -40,11 +25,11 @@ pub take-begun-spec : {M : Type 1} → statement M
 take-begun-spec =
     tie.close
     (tie.spec
-    slice-write-line
-    add-end
+    (λ c. search needs)
+    (λ c. search needs)
     slice-reshare-prefix-take-lines
     slice-aggregate-take-lines
-    take-lines-requires
-    same-length
-    same-length-2
+    (λ c κs. search needs)
+    (λ c. search needs)
+    (λ c. search needs)
     returns)

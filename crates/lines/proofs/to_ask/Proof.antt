@@ -8,9 +8,6 @@ use Rattle.lines.proofs.to_ask.Tie as tie
 returns : tie.Need-returns
 returns c = let a = c .before .args in ask-full (a .left) (a .used) (a .more) (c .if1 .taken)
 
-smaller-requires : tie.Need-smaller-requires
-smaller-requires c κs = search needs
-
 returns-2 : tie.Need-returns-2
 returns-2 c = let a = c .before .before .before .args in ask-more (a .left) (a .used) (a .more) _ (omega (arith, c .before .before .if1 .left)) (c .before .if2 .taken) (c .smaller .ensures)
 
@@ -23,4 +20,4 @@ returns-4 c =
     ask-one (a .left) (a .used) (a .more) (omega (arith, c .before .before .if1 .left)) (omega (arith, c .before .if2 .left)) (omega (arith, c .if3 .left))
 
 pub to-ask-spec : {M : Type 1} → statement M
-to-ask-spec = tie.close (tie.spec returns smaller-requires returns-2 returns-3 returns-4)
+to-ask-spec = tie.close (tie.spec returns (λ c κs. search needs) returns-2 returns-3 returns-4)

@@ -8,12 +8,6 @@ use borrow.Author.Needs.{needs}
 use Rattle.operations.proofs.column_code.Statement.{statement}
 use Rattle.operations.proofs.column_code.Tie as tie
 
-column-answer-requires : tie.Need-column-answer-requires
-column-answer-requires c κs = search needs
-
-added-code-requires : tie.Need-added-code-requires
-added-code-requires c κs = search needs
-
 returns : tie.Need-returns
 unfolding columnOperation
 returns c =
@@ -21,4 +15,4 @@ returns c =
     c .added-code .ensures ∙ ap addedCode (c .before .column-answer .ensures) ∙ sym (change-code (k .c) (k .k) (columnAnswer (held (k .c .columns)) (k .k)))
 
 pub column-code-spec : {M : Type 1} → statement M
-column-code-spec = tie.close (tie.spec column-answer-requires added-code-requires returns)
+column-code-spec = tie.close (tie.spec (λ c κs. search needs) (λ c κs. search needs) returns)

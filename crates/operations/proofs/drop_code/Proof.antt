@@ -7,9 +7,6 @@ use borrow.Author.Needs.{needs}
 use Rattle.operations.proofs.drop_code.Statement.{statement}
 use Rattle.operations.proofs.drop_code.Tie as tie
 
-place-limits-requires : tie.Need-place-limits-requires
-place-limits-requires c κs = search needs
-
 returns : tie.Need-returns
 unfolding dropOperation
 returns c = rw (sym (c .before .place-limits .ensures) ∙ not-true _ (c .if1 .taken)) refl
@@ -27,4 +24,4 @@ returns-3 c = rw (sym (c .before .before .before .before .place-limits .ensures)
 
 pub drop-code-spec : {M : Type 1} → statement M
 drop-code-spec =
-    tie.close (tie.spec place-limits-requires returns is-held-requires returns-2 returns-3)
+    tie.close (tie.spec (λ c κs. search needs) returns is-held-requires returns-2 returns-3)

@@ -8,18 +8,9 @@ use borrow.Author.Needs.{needs}
 use Rattle.operations.proofs.hold_code.Statement.{statement}
 use Rattle.operations.proofs.hold_code.Tie as tie
 
-place-limits-requires : tie.Need-place-limits-requires
-place-limits-requires c κs = search needs
-
 returns : tie.Need-returns
 unfolding holdOperation
 returns c = λ d. rw (sym (c .before .place-limits .ensures) ∙ not-true _ (c .if1 .taken)) refl
-
-weigh-requires : tie.Need-weigh-requires
-weigh-requires c κs = search needs
-
-weighed-code-requires : tie.Need-weighed-code-requires
-weighed-code-requires c κs = search needs
 
 returns-2 : tie.Need-returns-2
 unfolding holdOperation
@@ -31,4 +22,4 @@ returns-2 c = λ d.
 pub hold-code-spec : {M : Type 1} → statement M
 hold-code-spec =
     tie.close
-    (tie.spec place-limits-requires returns weigh-requires weighed-code-requires returns-2)
+    (tie.spec (λ c κs. search needs) returns (λ c κs. search needs) (λ c κs. search needs) returns-2)

@@ -9,18 +9,6 @@ use borrow.Author.Needs.{needs}
 use Rattle.operations.proofs.is_held.Statement.{statement}
 use Rattle.operations.proofs.is_held.Tie as tie
 
-sub-at : tie.Need-sub-at
-sub-at c = search needs
-
-cast-at : tie.Need-cast-at
-cast-at c = search needs
-
-mul-h : tie.Need-mul-h
-mul-h c = search needs
-
-array-copy-out-h : tie.Need-array-copy-out-h
-array-copy-out-h c = search needs
-
 returns : tie.Need-returns
 returns c =
     let hs = c .before .before .before .args .t1 in
@@ -29,4 +17,4 @@ returns c =
     ap (ltb 0) (sym (count-at hs n l (c .before .before .before .pre)))
 
 pub is-held-spec : {M : Type 1} → statement M
-is-held-spec = tie.close (tie.spec sub-at cast-at mul-h array-copy-out-h returns)
+is-held-spec = tie.close (tie.spec (λ c. search needs) (λ c. search needs) (λ c. search needs) (λ c. search needs) returns)

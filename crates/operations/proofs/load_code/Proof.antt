@@ -8,12 +8,6 @@ use borrow.Author.Needs.{needs}
 use Rattle.operations.proofs.load_code.Statement.{statement}
 use Rattle.operations.proofs.load_code.Tie as tie
 
-load-limits-requires : tie.Need-load-limits-requires
-load-limits-requires c κs = search needs
-
-limit-code-requires : tie.Need-limit-code-requires
-limit-code-requires c κs = search needs
-
 returns : tie.Need-returns
 unfolding loadOperation
 returns c = λ d.
@@ -21,4 +15,4 @@ returns c = λ d.
     c .limit-code .ensures ∙ ap (λ x. cond x 0 20) (c .before .load-limits .ensures) ∙ sym (by-cond (loadLimits l) (taken (withLoad d l)) (refusedWith 20 d))
 
 pub load-code-spec : {M : Type 1} → statement M
-load-code-spec = tie.close (tie.spec load-limits-requires limit-code-requires returns)
+load-code-spec = tie.close (tie.spec (λ c κs. search needs) (λ c κs. search needs) returns)

@@ -8,12 +8,6 @@ use borrow.Author.Needs.{needs}
 use Rattle.operations.proofs.ship_code.Statement.{statement}
 use Rattle.operations.proofs.ship_code.Tie as tie
 
-ship-limits-requires : tie.Need-ship-limits-requires
-ship-limits-requires c κs = search needs
-
-limit-code-requires : tie.Need-limit-code-requires
-limit-code-requires c κs = search needs
-
 returns : tie.Need-returns
 unfolding shipOperation
 returns c = λ d.
@@ -21,4 +15,4 @@ returns c = λ d.
     c .limit-code .ensures ∙ ap (λ x. cond x 0 20) (c .before .ship-limits .ensures) ∙ sym (by-cond (shipLimits s) (taken (withShip d s)) (refusedWith 20 d))
 
 pub ship-code-spec : {M : Type 1} → statement M
-ship-code-spec = tie.close (tie.spec ship-limits-requires limit-code-requires returns)
+ship-code-spec = tie.close (tie.spec (λ c κs. search needs) (λ c κs. search needs) returns)

@@ -15,9 +15,6 @@ returns c =
     let l : length (cs .places) ≡ 20 = search (unmapped, needs) in
     rw (le-leb 20 (length (held cs)) (omega (arith, length-take (cs .count) (cs .places)))) refl
 
-with-column-requires : tie.Need-with-column-requires
-with-column-requires c κs = search needs
-
 returns-2 : tie.Need-returns-2
 returns-2 c =
     let cs = c .before .before .before .before .args .c .columns in
@@ -25,4 +22,4 @@ returns-2 c =
     rw (lt-leb 20 (length (held cs)) (omega (arith, length-take (cs .count) (cs .places))), c .with-column .ensures) refl
 
 pub with-column-spec : {M : Type 1} → statement M
-with-column-spec = tie.close (tie.spec returns with-column-requires returns-2)
+with-column-spec = tie.close (tie.spec returns (λ c κs. search needs) returns-2)

@@ -7,21 +7,12 @@ use borrow.Author.Needs.{needs}
 use Rattle.operations.proofs.with_hold.Statement.{statement}
 use Rattle.operations.proofs.with_hold.Tie as tie
 
-place-limits-requires : tie.Need-place-limits-requires
-place-limits-requires c κs = search needs
-
 returns : tie.Need-returns
 returns c = rw (sym (c .before .place-limits .ensures) ∙ not-true _ (c .if1 .taken)) refl
 
 sub-place : tie.Need-sub-place
 sub-place c =
     let w = place-within (c .before .before .args .n) (sym (c .before .place-limits .ensures) ∙ not-false _ (c .if1 .left)) in omega arith
-
-cast-place : tie.Need-cast-place
-cast-place c = search needs
-
-mul-h : tie.Need-mul-h
-mul-h c = search needs
 
 element-set-from-h : tie.Need-element-set-from-h
 element-set-from-h c =
@@ -33,4 +24,4 @@ returns-2 c = rw (sym (c .before .place-limits .ensures) ∙ not-false _ (c .if1
 pub with-hold-spec : {M : Type 1} → statement M
 with-hold-spec =
     tie.close
-    (tie.spec place-limits-requires returns sub-place cast-place mul-h element-set-from-h returns-2)
+    (tie.spec (λ c κs. search needs) returns sub-place (λ c. search needs) (λ c. search needs) element-set-from-h returns-2)

@@ -13,26 +13,16 @@ returns c =
     let k = c .before .before .args in
     rw (heard-none (k .c) (k .h) (length (k .out .now)) (search needs)) (record { coded = refl; long = refl; written = refl })
 
-answer-with-requires : tie.Need-answer-with-requires
-answer-with-requires c κs = search needs
-
-same-length : tie.Need-same-length
-same-length c = search needs
-
 returns-2 : tie.Need-returns-2
 returns-2 c =
-    let k = c .before .before .before .before .before .before .before .args in
+    let args = c .before .before .before .before .before .before .before .args in
+    let k = args in
     rw (heard-refused (k .c) (k .h) (length (k .out .now)) (search needs) (c .before .before .before .before .if2 .taken)) (c .before .before .answer-with .ensures)
-
-reply-to-requires : tie.Need-reply-to-requires
-reply-to-requires c κs = search needs
-
-same-length-2 : tie.Need-same-length-2
-same-length-2 c = search needs
 
 returns-3 : tie.Need-returns-3
 returns-3 c =
-    let k = c .before .before .before .before .before .before .before .before .args in
+    let args = c .before .before .before .before .before .before .before .before .args in
+    let k = args in
     rw (heard-request (k .c) (k .h) (length (k .out .now)) (search needs) (c .before .before .before .before .before .if2 .left)) (c .before .before .reply-to .ensures)
 
 pub answer-spec : {M : Type 1} → statement M
@@ -40,9 +30,9 @@ answer-spec =
     tie.close
     (tie.spec
     returns
-    answer-with-requires
-    same-length
+    (λ c κs. search needs)
+    (λ c. search needs)
     returns-2
-    reply-to-requires
-    same-length-2
+    (λ c κs. search needs)
+    (λ c. search needs)
     returns-3)

@@ -5,51 +5,6 @@ use borrow.Author.Needs.{needs}
 use Rattle.panel.proofs.effect.Statement.{statement}
 use Rattle.panel.proofs.effect.Tie as tie
 
-enum-known-kind : tie.Need-enum-known-kind
-enum-known-kind c = search needs
-
-with-ship-requires : tie.Need-with-ship-requires
-with-ship-requires c κs = search needs
-
-enum-told : tie.Need-enum-told
-enum-told c = search needs
-
-with-column-requires : tie.Need-with-column-requires
-with-column-requires c κs = search needs
-
-enum-known-kind-2 : tie.Need-enum-known-kind-2
-enum-known-kind-2 c = search needs
-
-with-load-requires : tie.Need-with-load-requires
-with-load-requires c κs = search needs
-
-enum-known-kind-3 : tie.Need-enum-known-kind-3
-enum-known-kind-3 c = search needs
-
-with-hold-requires : tie.Need-with-hold-requires
-with-hold-requires c κs = search needs
-
-enum-known-kind-4 : tie.Need-enum-known-kind-4
-enum-known-kind-4 c = search needs
-
-no-hold-requires : tie.Need-no-hold-requires
-no-hold-requires c κs = search needs
-
-with-hold-requires-2 : tie.Need-with-hold-requires-2
-with-hold-requires-2 c κs = search needs
-
-enum-told-2 : tie.Need-enum-told-2
-enum-told-2 c = search needs
-
-enum-told-3 : tie.Need-enum-told-3
-enum-told-3 c = search needs
-
-empty-condition-requires : tie.Need-empty-condition-requires
-empty-condition-requires c κs = search needs
-
-enum-told-4 : tie.Need-enum-told-4
-enum-told-4 c = search needs
-
 returns : tie.Need-returns
 unfolding effectOf
 returns c = rw (c .before .before .kind .given .1) (c .with-ship .ensures)
@@ -86,21 +41,21 @@ pub effect-spec : {M : Type 1} → statement M
 effect-spec =
     tie.close
     (tie.spec
-    enum-known-kind
-    with-ship-requires
-    enum-told
-    with-column-requires
-    enum-known-kind-2
-    with-load-requires
-    enum-known-kind-3
-    with-hold-requires
-    enum-known-kind-4
-    no-hold-requires
-    with-hold-requires-2
-    enum-told-2
-    enum-told-3
-    empty-condition-requires
-    enum-told-4
+    (λ c. search needs)
+    (λ c κs. search needs)
+    (λ c. search needs)
+    (λ c κs. search needs)
+    (λ c. search needs)
+    (λ c κs. search needs)
+    (λ c. search needs)
+    (λ c κs. search needs)
+    (λ c. search needs)
+    (λ c κs. search needs)
+    (λ c κs. search needs)
+    (λ c. search needs)
+    (λ c. search needs)
+    (λ c κs. search needs)
+    (λ c. search needs)
     returns
     returns-2
     returns-3

@@ -8,28 +8,10 @@ use borrow.Author.Needs.{needs}
 use Rattle.panel.proofs.give_verdict.Statement.{statement}
 use Rattle.panel.proofs.give_verdict.Tie as tie
 
-judge-requires : tie.Need-judge-requires
-judge-requires c κs = search needs
-
-enum-known-j : tie.Need-enum-known-j
-enum-known-j c = search needs
-
-refusal-requires : tie.Need-refusal-requires
-refusal-requires c κs = search needs
-
-enum-known-j-2 : tie.Need-enum-known-j-2
-enum-known-j-2 c = search needs
-
-judgement-code-requires : tie.Need-judgement-code-requires
-judgement-code-requires c κs = search needs
-
 verdict-requires : tie.Need-verdict-requires
 verdict-requires c κs =
     let k = c .before .before .before .before .before in
     (search needs, upper-shown (k .before .before .before .before .args .c) (k .j2 .given .0 .0) (sym (k .before .before .judge .ensures) ∙ k .j2 .given .1))
-
-same-length : tie.Need-same-length
-same-length c = search needs
 
 returns : tie.Need-returns
 returns c =
@@ -37,12 +19,10 @@ returns c =
     rw (sym (k .before .before .judge .ensures) ∙ k .j .given .1)
     (record { coded = refl; long = c .before .before .refusal .ensures .0; written = c .before .before .refusal .ensures .1 })
 
-same-length-2 : tie.Need-same-length-2
-same-length-2 c = search needs
-
 returns-2 : tie.Need-returns-2
 returns-2 c =
-    let v = c .before .before .before .before .before .before .before .before .j2 .given .0 .0 in
+    let j2-given = c .before .before .before .before .before .before .before .before .j2 .given in
+    let v = j2-given .0 .0 in
     let f1 : SFits w64 (v .gm) = search needs in
     let f2 : SFits w64 (v .diff) = search needs in
     let m = c .before .before .before .before .before .before in
@@ -59,13 +39,13 @@ pub give-verdict-spec : {M : Type 1} → statement M
 give-verdict-spec =
     tie.close
     (tie.spec
-    judge-requires
-    enum-known-j
-    refusal-requires
-    enum-known-j-2
-    judgement-code-requires
+    (λ c κs. search needs)
+    (λ c. search needs)
+    (λ c κs. search needs)
+    (λ c. search needs)
+    (λ c κs. search needs)
     verdict-requires
-    same-length
+    (λ c. search needs)
     returns
-    same-length-2
+    (λ c. search needs)
     returns-2)

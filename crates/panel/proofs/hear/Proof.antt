@@ -6,23 +6,11 @@ use borrow.Author.Needs.{needs}
 use Rattle.panel.proofs.hear.Statement.{statement}
 use Rattle.panel.proofs.hear.Tie as tie
 
-reading-of-requires : tie.Need-reading-of-requires
-reading-of-requires c κs = search needs
-
-reading-code-requires : tie.Need-reading-code-requires
-reading-code-requires c κs = search needs
-
-plain-requires : tie.Need-plain-requires
-plain-requires c κs = search needs
-
 returns : tie.Need-returns
 returns c =
     let line = c .before .before .before .before .before .args .line .now in
     let k = c .before .before in
     rw (heard-down line (readingOf line) (k .reading-code .result) (k .reading-code .ensures ∙ ap readingCode (k .before .reading-of .ensures)) (c .before .if1 .taken), c .plain .ensures)
-
-request-of-requires : tie.Need-request-of-requires
-request-of-requires c κs = search needs
 
 returns-2 : tie.Need-returns-2
 returns-2 c =
@@ -34,9 +22,9 @@ pub hear-spec : {M : Type 1} → statement M
 hear-spec =
     tie.close
     (tie.spec
-    reading-of-requires
-    reading-code-requires
-    plain-requires
+    (λ c κs. search needs)
+    (λ c κs. search needs)
+    (λ c κs. search needs)
     returns
-    request-of-requires
+    (λ c κs. search needs)
     returns-2)

@@ -5,15 +5,6 @@ use borrow.Author.Needs.{needs}
 use Rattle.panel.proofs.step.Statement.{statement}
 use Rattle.panel.proofs.step.Tie as tie
 
-hear-requires : tie.Need-hear-requires
-hear-requires c κs = search needs
-
-answer-requires : tie.Need-answer-requires
-answer-requires c κs = search needs
-
-same-length : tie.Need-same-length
-same-length c = search needs
-
 returns : tie.Need-returns
 returns c =
     let a = c .before .before .before .answer .ensures in
@@ -23,12 +14,6 @@ returns c =
     let e = heard-as (k .c) (k .line .now) n (m .hear .result) (m .hear .ensures) in
     let kept = answer-kept (k .c) (m .hear .result) n (k .line .now) e (c .before .before .before .answer .result .code) (a .coded) (c .if1 .taken) in
     rw (← e) (record { condition = rw e kept; coded = a .coded; long = a .long; written = a .written })
-
-effect-requires : tie.Need-effect-requires
-effect-requires c κs = search needs
-
-same-length-2 : tie.Need-same-length-2
-same-length-2 c = search needs
 
 returns-2 : tie.Need-returns-2
 returns-2 c =
@@ -44,10 +29,10 @@ pub step-spec : {M : Type 1} → statement M
 step-spec =
     tie.close
     (tie.spec
-    hear-requires
-    answer-requires
-    same-length
+    (λ c κs. search needs)
+    (λ c κs. search needs)
+    (λ c. search needs)
     returns
-    effect-requires
-    same-length-2
+    (λ c κs. search needs)
+    (λ c. search needs)
     returns-2)

@@ -4,24 +4,6 @@ use borrow.Author.Needs.{needs}
 use Rattle.parts.proofs.body_at.Statement.{statement}
 use Rattle.parts.proofs.body_at.Tie as tie
 
-enum-told : tie.Need-enum-told
-enum-told c = search needs
-
-section-at-requires : tie.Need-section-at-requires
-section-at-requires c κs = search needs
-
-enum-told-2 : tie.Need-enum-told-2
-enum-told-2 c = search needs
-
-section-at-requires-2 : tie.Need-section-at-requires-2
-section-at-requires-2 c κs = search needs
-
-enum-told-3 : tie.Need-enum-told-3
-enum-told-3 c = search needs
-
-slack-at-requires : tie.Need-slack-at-requires
-slack-at-requires c κs = search needs
-
 returns : tie.Need-returns
 unfolding body?
 returns c = rw (c .before .enum-told .given .1) (c .section-at .ensures)
@@ -38,12 +20,12 @@ pub body-at-spec : {M : Type 1} → statement M
 body-at-spec =
     tie.close
     (tie.spec
-    enum-told
-    section-at-requires
-    enum-told-2
-    section-at-requires-2
-    enum-told-3
-    slack-at-requires
+    (λ c. search needs)
+    (λ c κs. search needs)
+    (λ c. search needs)
+    (λ c κs. search needs)
+    (λ c. search needs)
+    (λ c κs. search needs)
     returns
     returns-2
     returns-3)

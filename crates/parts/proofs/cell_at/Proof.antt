@@ -14,15 +14,6 @@ use borrow.Author.Needs.{needs}
 use Rattle.parts.proofs.cell_at.Statement.{statement}
 use Rattle.parts.proofs.cell_at.Tie as tie
 
-head-at-requires : tie.Need-head-at-requires
-head-at-requires c κs = search needs
-
-enum-known-a : tie.Need-enum-known-a
-enum-known-a c = search needs
-
-enum-told : tie.Need-enum-told
-enum-told c = search needs
-
 returns : tie.Need-returns
 unfolding cell?
 returns c = let n = rw (c .enum-told .given .1) at (c .before .before .head-at .ensures) in rw n
@@ -33,15 +24,6 @@ run-of-requires c κs =
     let n = rw (k .a .given .1) at (k .before .before .head-at .ensures) in
     (n .1, n .0 .1)
 
-cell-named-requires : tie.Need-cell-named-requires
-cell-named-requires c κs = search needs
-
-enum-known-word : tie.Need-enum-known-word
-enum-known-word c = search needs
-
-enum-told-2 : tie.Need-enum-told-2
-enum-told-2 c = search needs
-
 returns-2 : tie.Need-returns-2
 unfolding cell?
 returns-2 c =
@@ -50,20 +32,11 @@ returns-2 c =
     let e = ap cellNamed (sym (c .before .before .before .run-of .ensures)) ∙ sym (c .before .before .cell-named .ensures) ∙ c .enum-told2 .given .1 in
     rw (n .0 .0, e)
 
-numbers-of-requires : tie.Need-numbers-of-requires
-numbers-of-requires c κs = search needs
-
 sizes-at-requires : tie.Need-sizes-at-requires
 sizes-at-requires c κs =
     let k = c .before .before .before .before .before .before .before in
     let n = rw (k .a .given .1) at (k .before .before .head-at .ensures) in
     (n .0 .1, rw (c .numbers-of .ensures) (few-numbers (c .before .before .word .given .0 .0)))
-
-enum-known-end : tie.Need-enum-known-end
-enum-known-end c = search needs
-
-enum-told-3 : tie.Need-enum-told-3
-enum-told-3 c = search needs
 
 returns-3 : tie.Need-returns-3
 unfolding cell?
@@ -76,17 +49,15 @@ returns-3 c =
     let t = c .before .before .before .numbers-of in
     rw (n .0 .0, e, ← t .ensures, carries-none (map carried) (lastNumbers? (t .result) (tokens (drop (k .a .given .0 .1 .0) (k .before .before .before .before .args .s .now)))) m)
 
-cell-of-requires : tie.Need-cell-of-requires
-cell-of-requires c κs = search needs
-
 returns-4 : tie.Need-returns-4
 unfolding cell?
 returns-4 c =
+    let numbers-of = c .before .before .before .before .before .before .numbers-of in
     let k = c .before .before .before .before .before .before .before .before .before .before .before .before .before in
     let n = rw (k .a .given .1) at (k .before .before .head-at .ensures) in
     let w = c .before .before .before .before .before .before .before .before in
     let e = ap cellNamed (sym (w .before .before .before .run-of .ensures)) ∙ sym (w .before .before .cell-named .ensures) ∙ w .word .given .1 in
-    let r = c .before .before .before .before .before .before .numbers-of in
+    let r = numbers-of in
     let sizes = c .before .before .before .before .before .sizes-at in
     let m = rw (c .before .before .before .end .given .1) at (sizes .ensures) in
     let s = k .before .before .before .before .args .s .now in
@@ -96,19 +67,19 @@ pub cell-at-spec : {M : Type 1} → statement M
 cell-at-spec =
     tie.close
     (tie.spec
-    head-at-requires
-    enum-known-a
-    enum-told
+    (λ c κs. search needs)
+    (λ c. search needs)
+    (λ c. search needs)
     returns
     run-of-requires
-    cell-named-requires
-    enum-known-word
-    enum-told-2
+    (λ c κs. search needs)
+    (λ c. search needs)
+    (λ c. search needs)
     returns-2
-    numbers-of-requires
+    (λ c κs. search needs)
     sizes-at-requires
-    enum-known-end
-    enum-told-3
+    (λ c. search needs)
+    (λ c. search needs)
     returns-3
-    cell-of-requires
+    (λ c κs. search needs)
     returns-4)

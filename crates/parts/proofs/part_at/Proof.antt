@@ -6,18 +6,6 @@ use borrow.Author.Needs.{needs}
 use Rattle.parts.proofs.part_at.Statement.{statement}
 use Rattle.parts.proofs.part_at.Tie as tie
 
-head-at-requires : tie.Need-head-at-requires
-head-at-requires c κs = search needs
-
-enum-known-a : tie.Need-enum-known-a
-enum-known-a c = search needs
-
-enum-told : tie.Need-enum-told
-enum-told c = search needs
-
-no-part-item-requires : tie.Need-no-part-item-requires
-no-part-item-requires c κs = search needs
-
 returns : tie.Need-returns
 unfolding part?
 returns c =
@@ -29,31 +17,27 @@ run-of-requires c κs =
     let n = rw (c .before .a .given .1) at (c .before .before .before .head-at .ensures) in
     (n .1, n .0 .1)
 
-slice-aggregate-same : tie.Need-slice-aggregate-same
-slice-aggregate-same c = search needs
-
-same-requires : tie.Need-same-requires
-same-requires c κs = search needs
-
 body-at-requires : tie.Need-body-at-requires
 body-at-requires c κs =
-    let n = rw (c .before .before .before .before .before .a .given .1) at (c .before .before .before .before .before .before .before .head-at .ensures) in
+    let head-at = c .before .before .before .before .before .before .before .head-at in
+    let n = rw (c .before .before .before .before .before .a .given .1) at (head-at .ensures) in
     n .0 .1
 
 returns-2 : tie.Need-returns-2
 unfolding part?
 returns-2 c =
-    let n = rw (c .before .before .before .before .before .before .a .given .1) at (c .before .before .before .before .before .before .before .before .head-at .ensures) in
+    let a-given = c .before .before .before .before .before .before .a .given in
+    let head-at = c .before .before .before .before .before .before .before .before .head-at in
+    let n = rw (a-given .1) at (head-at .ensures) in
     let e1 = sym (c .before .before .same .ensures) ∙ c .before .if1 .taken in
     rw (n .0 .0, ← c .before .before .before .before .run-of .ensures, e1) (c .body-at .ensures)
-
-no-part-item-requires-2 : tie.Need-no-part-item-requires-2
-no-part-item-requires-2 c κs = search needs
 
 returns-3 : tie.Need-returns-3
 unfolding part?
 returns-3 c =
-    let n = rw (c .before .before .before .before .before .before .a .given .1) at (c .before .before .before .before .before .before .before .before .head-at .ensures) in
+    let a-given = c .before .before .before .before .before .before .a .given in
+    let head-at = c .before .before .before .before .before .before .before .before .head-at in
+    let n = rw (a-given .1) at (head-at .ensures) in
     let e1 = sym (c .before .before .same .ensures) ∙ c .before .if1 .left in
     rw (c .no-part-item2 .ensures .1, n .0 .0, ← c .before .before .before .before .run-of .ensures, e1)
 
@@ -61,15 +45,15 @@ pub part-at-spec : {M : Type 1} → statement M
 part-at-spec =
     tie.close
     (tie.spec
-    head-at-requires
-    enum-known-a
-    enum-told
-    no-part-item-requires
+    (λ c κs. search needs)
+    (λ c. search needs)
+    (λ c. search needs)
+    (λ c κs. search needs)
     returns
     run-of-requires
-    slice-aggregate-same
-    same-requires
+    (λ c. search needs)
+    (λ c κs. search needs)
     body-at-requires
     returns-2
-    no-part-item-requires-2
+    (λ c κs. search needs)
     returns-3)

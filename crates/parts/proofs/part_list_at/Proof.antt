@@ -19,76 +19,47 @@ Inv-loop s at mode parts₀ p₀ i₀ parts p i = Filling 6 noPart i parts × (p
 abbrev μ-loop : tie.MeasureT-loop
 μ-loop s at mode parts₀ p₀ i₀ parts p i = 6 - i
 
-no-part-requires : tie.Need-no-part-requires Inv-loop μ-loop
-no-part-requires c κs = search needs
-
 loop-holds : tie.Need-loop-holds Inv-loop μ-loop
 loop-holds c = (rw (c .no-part .ensures) (filling-none 6 noPart), c .before .before .pre, sym (ahead-none (kept-items carriedPart (part? (c .before .before .args .mode)) 6 (tokens (drop (c .before .before .args .at) (c .before .before .args .s .now))))))
-
-close-at-requires : tie.Need-close-at-requires Inv-loop μ-loop
-close-at-requires c κs = search needs
-
-enum-known-end : tie.Need-enum-known-end Inv-loop μ-loop
-enum-known-end c = search needs
 
 cast-t16 : tie.Need-cast-t16 Inv-loop μ-loop
 cast-t16 c = let b : c .before .before .before .before .before .loop .i < 6 = search needs in search needs
 
 returns : tie.Need-returns Inv-loop μ-loop
 returns c =
+    let loop = c .before .before .before .before .before .loop in
+    let args = c .before .before .before .before .before .before .before .before .args in
     let n = rw (c .before .end .given .1) at (c .before .before .before .close-at .ensures) in
-    let i = c .before .before .before .before .before .loop .i in
-    let xs = c .before .before .before .before .before .loop .parts in
-    ((c .before .before .before .before .before .loop .inv .2 ∙ rw (items-closed carriedPart (part? (c .before .before .before .before .before .before .before .before .args .mode)) (6 - i) (tokens (drop (c .before .before .before .before .before .loop .p) (c .before .before .before .before .before .before .before .before .args .s .now))) _ (n .0)) (ahead-end (take i xs) _), n .1), filled 6 noPart i xs (c .before .before .before .before .before .loop .inv .0) .0, filled 6 noPart i xs (c .before .before .before .before .before .loop .inv .0) .1)
-
-enum-told : tie.Need-enum-told Inv-loop μ-loop
-enum-told c = search needs
-
-part-at-requires : tie.Need-part-at-requires Inv-loop μ-loop
-part-at-requires c κs = search needs
-
-enum-known-last : tie.Need-enum-known-last Inv-loop μ-loop
-enum-known-last c = search needs
-
-enum-told-2 : tie.Need-enum-told-2 Inv-loop μ-loop
-enum-told-2 c = search needs
+    let i = loop .i in
+    let xs = loop .parts in
+    ((loop .inv .2 ∙ rw (items-closed carriedPart (part? (args .mode)) (6 - i) (tokens (drop (loop .p) (args .s .now))) _ (n .0)) (ahead-end (take i xs) _), n .1), filled 6 noPart i xs (loop .inv .0) .0, filled 6 noPart i xs (loop .inv .0) .1)
 
 returns-2 : tie.Need-returns-2 Inv-loop μ-loop
 returns-2 c =
-    let i = c .before .before .before .before .before .before .before .loop .i in
-    let ts = tokens (drop (c .before .before .before .before .before .before .before .loop .p) (c .before .before .before .before .before .before .before .before .before .before .args .s .now)) in
+    let loop = c .before .before .before .before .before .before .before .loop in
+    let args = c .before .before .before .before .before .before .before .before .before .before .args in
+    let i = loop .i in
+    let ts = tokens (drop (loop .p) (args .s .now)) in
     let n = rw (c .before .before .before .enum-told .given .1) at (c .before .before .before .before .before .close-at .ensures) in
     let m = rw (c .enum-told2 .given .1) at (c .before .before .part-at .ensures) in
-    c .before .before .before .before .before .before .before .loop .inv .2 ∙ rw (items-stop carriedPart (part? (c .before .before .before .before .before .before .before .before .before .before .args .mode)) (6 - i) ts n (omega arith) m)
-
-mul-parts : tie.Need-mul-parts Inv-loop μ-loop
-mul-parts c = search needs
-
-array-set-from-parts : tie.Need-array-set-from-parts Inv-loop μ-loop
-array-set-from-parts c = search needs
-
-add-i : tie.Need-add-i Inv-loop μ-loop
-add-i c = search needs
-
-loop-less : tie.Need-loop-less Inv-loop μ-loop
-loop-less c = search needs
+    loop .inv .2 ∙ rw (items-stop carriedPart (part? (args .mode)) (6 - i) ts n (omega arith) m)
 
 loop-again : tie.Need-loop-again Inv-loop μ-loop
 loop-again c =
-    let i = c .before .before .before .before .before .before .before .before .before .loop .i in
-    let xs = c .before .before .before .before .before .before .before .before .before .loop .parts in
-    let ts = tokens (drop (c .before .before .before .before .before .before .before .before .before .loop .p) (c .before .before .before .before .before .before .before .before .before .before .before .before .args .s .now)) in
+    let close-at = c .before .before .before .before .before .before .before .close-at in
+    let loop = c .before .before .before .before .before .before .before .before .before .loop in
+    let args = c .before .before .before .before .before .before .before .before .before .before .before .before .args in
+    let i = loop .i in
+    let xs = loop .parts in
+    let ts = tokens (drop (loop .p) (args .s .now)) in
     let x = c .before .before .before .before .part-at .result .part in
-    let us = tokens (drop (c .before .before .last .given .0 .0) (c .before .before .before .before .before .before .before .before .before .before .before .before .args .s .now)) in
-    let n = rw (c .before .before .before .before .before .enum-told .given .1) at (c .before .before .before .before .before .before .before .close-at .ensures) in
+    let us = tokens (drop (c .before .before .last .given .0 .0) (args .s .now)) in
+    let n = rw (c .before .before .before .before .before .enum-told .given .1) at (close-at .ensures) in
     let m = rw (c .before .before .last .given .1) at (c .before .before .before .before .part-at .ensures) in
     let k : 6 - i - 1 ≡ 6 - (i + 1) = omega arith in
-    let g = items-next carriedPart (part? (c .before .before .before .before .before .before .before .before .before .before .before .before .args .mode)) (6 - i) ts n x us (omega arith) (m .0) in
-    let t = filling-taken 6 noPart i xs x (c .before .before .before .before .before .before .before .before .before .loop .inv .0) (omega arith) in
-    (filling-more 6 noPart i xs x (c .before .before .before .before .before .before .before .before .before .loop .inv .0) (omega arith), m .1, c .before .before .before .before .before .before .before .before .before .loop .inv .2 ∙ rw (g, k, t) (sym (ahead-one (take i xs) x (kept-items carriedPart (part? (c .before .before .before .before .before .before .before .before .before .before .before .before .args .mode)) (6 - (i + 1)) us))))
-
-close-at-requires-2 : tie.Need-close-at-requires-2 Inv-loop μ-loop
-close-at-requires-2 c κs = search needs
+    let g = items-next carriedPart (part? (args .mode)) (6 - i) ts n x us (omega arith) (m .0) in
+    let t = filling-taken 6 noPart i xs x (loop .inv .0) (omega arith) in
+    (filling-more 6 noPart i xs x (loop .inv .0) (omega arith), m .1, loop .inv .2 ∙ rw (g, k, t) (sym (ahead-one (take i xs) x (kept-items carriedPart (part? (args .mode)) (6 - (i + 1)) us))))
 
 returns-3 : tie.Need-returns-3 Inv-loop μ-loop
 returns-3 c =
@@ -102,21 +73,21 @@ part-list-at-spec =
     (tie.spec
     Inv-loop
     μ-loop
-    no-part-requires
+    (λ c κs. search needs)
     loop-holds
-    close-at-requires
-    enum-known-end
+    (λ c κs. search needs)
+    (λ c. search needs)
     cast-t16
     returns
-    enum-told
-    part-at-requires
-    enum-known-last
-    enum-told-2
+    (λ c. search needs)
+    (λ c κs. search needs)
+    (λ c. search needs)
+    (λ c. search needs)
     returns-2
-    mul-parts
-    array-set-from-parts
-    add-i
-    loop-less
+    (λ c. search needs)
+    (λ c. search needs)
+    (λ c. search needs)
+    (λ c. search needs)
     loop-again
-    close-at-requires-2
+    (λ c κs. search needs)
     returns-3)

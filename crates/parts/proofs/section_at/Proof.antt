@@ -13,18 +13,6 @@ use borrow.Author.Needs.{needs}
 use Rattle.parts.proofs.section_at.Statement.{statement}
 use Rattle.parts.proofs.section_at.Tie as tie
 
-size-at-requires : tie.Need-size-at-requires
-size-at-requires c κs = search needs
-
-enum-known-length : tie.Need-enum-known-length
-enum-known-length c = search needs
-
-enum-told : tie.Need-enum-told
-enum-told c = search needs
-
-no-part-item-requires : tie.Need-no-part-item-requires
-no-part-item-requires c κs = search needs
-
 returns : tie.Need-returns
 unfolding section?
 returns c =
@@ -36,34 +24,37 @@ cells-at-requires c κs =
     let n = rw (c .before .length .given .1) at (c .before .before .before .size-at .ensures) in
     n .1
 
-no-part-item-requires-2 : tie.Need-no-part-item-requires-2
-no-part-item-requires-2 c κs = search needs
-
 returns-2 : tie.Need-returns-2
 unfolding section?
 returns-2 c =
-    let n = rw (c .before .before .before .before .length .given .1) at (c .before .before .before .before .before .before .size-at .ensures) in
-    let i = carries carried (number? (tokens (drop (c .before .before .before .before .before .before .before .before .args .at) (c .before .before .before .before .before .before .before .before .args .s .now)))) (c .before .before .before .before .length .given .0 .0) (tokens (drop (c .before .before .before .before .length .given .0 .1 .0) (c .before .before .before .before .before .before .before .before .args .s .now))) (n .0) in
-    rw (c .no-part-item2 .ensures .1, i .is) (no-items carriedPart (sectionRecord (i .read)) slotOf (items? 8 cell? (tokens (drop (c .before .before .before .before .length .given .0 .1 .0) (c .before .before .before .before .before .before .before .before .args .s .now)))) (c .before .before .before .before .before .before .before .before .args .s .now) 8 noSlot (c .before .before .cells-at .result .count) (c .before .before .cells-at .result .slots) (c .before .before .cells-at .result .end) (c .before .before .cells-at .ensures) (c .before .if1 .taken))
+    let length-given = c .before .before .before .before .length .given in
+    let size-at = c .before .before .before .before .before .before .size-at in
+    let args = c .before .before .before .before .before .before .before .before .args in
+    let n = rw (length-given .1) at (size-at .ensures) in
+    let i = carries carried (number? (tokens (drop (args .at) (args .s .now)))) (length-given .0 .0) (tokens (drop (length-given .0 .1 .0) (args .s .now))) (n .0) in
+    rw (c .no-part-item2 .ensures .1, i .is) (no-items carriedPart (sectionRecord (i .read)) slotOf (items? 8 cell? (tokens (drop (length-given .0 .1 .0) (args .s .now)))) (args .s .now) 8 noSlot (c .before .before .cells-at .result .count) (c .before .before .cells-at .result .slots) (c .before .before .cells-at .result .end) (c .before .before .cells-at .ensures) (c .before .if1 .taken))
 
 returns-3 : tie.Need-returns-3
 unfolding section?
 returns-3 c =
-    let n = rw (c .before .before .before .before .length .given .1) at (c .before .before .before .before .before .before .size-at .ensures) in
-    let i = carries carried (number? (tokens (drop (c .before .before .before .before .before .before .before .before .args .at) (c .before .before .before .before .before .before .before .before .args .s .now)))) (c .before .before .before .before .length .given .0 .0) (tokens (drop (c .before .before .before .before .length .given .0 .1 .0) (c .before .before .before .before .before .before .before .before .args .s .now))) (n .0) in
-    rw (i .is) (some-items carriedPart (sectionRecord (i .read)) slotOf (items? 8 cell? (tokens (drop (c .before .before .before .before .length .given .0 .1 .0) (c .before .before .before .before .before .before .before .before .args .s .now)))) (c .before .before .before .before .before .before .before .before .args .s .now) 8 noSlot (c .before .before .cells-at .result .count) (c .before .before .cells-at .result .slots) _ (c .before .before .cells-at .result .end) (c .before .before .cells-at .ensures) (omega arith)
+    let length-given = c .before .before .before .before .length .given in
+    let size-at = c .before .before .before .before .before .before .size-at in
+    let args = c .before .before .before .before .before .before .before .before .args in
+    let n = rw (length-given .1) at (size-at .ensures) in
+    let i = carries carried (number? (tokens (drop (args .at) (args .s .now)))) (length-given .0 .0) (tokens (drop (length-given .0 .1 .0) (args .s .now))) (n .0) in
+    rw (i .is) (some-items carriedPart (sectionRecord (i .read)) slotOf (items? 8 cell? (tokens (drop (length-given .0 .1 .0) (args .s .now)))) (args .s .now) 8 noSlot (c .before .before .cells-at .result .count) (c .before .before .cells-at .result .slots) _ (c .before .before .cells-at .result .end) (c .before .before .cells-at .ensures) (omega arith)
     (λ xs l e. rw (section-kept (i .read) xs, ← i .kept, l, ← e)))
 
 pub section-at-spec : {M : Type 1} → statement M
 section-at-spec =
     tie.close
     (tie.spec
-    size-at-requires
-    enum-known-length
-    enum-told
-    no-part-item-requires
+    (λ c κs. search needs)
+    (λ c. search needs)
+    (λ c. search needs)
+    (λ c κs. search needs)
     returns
     cells-at-requires
-    no-part-item-requires-2
+    (λ c κs. search needs)
     returns-2
     returns-3)

@@ -5,30 +5,13 @@ use borrow.Author.Needs.{needs}
 use Rattle.reply.proofs.append.Statement.{statement}
 use Rattle.reply.proofs.append.Tie as tie
 
-sub-put : tie.Need-sub-put
-sub-put c = search needs
-
-part-put-start : tie.Need-part-put-start
-part-put-start c = search needs
-
-part-put-end : tie.Need-part-put-end
-part-put-end c = search needs
-
-put-requires : tie.Need-put-requires
-put-requires c κs = search needs
-
-add-result : tie.Need-add-result
-add-result c = search needs
-
-same-length : tie.Need-same-length
-same-length c = search needs
-
 returns : tie.Need-returns
 returns c =
+    let args = c .before .before .before .before .before .before .args in
     let e = c .before .before .put .ensures in
-    (omega arith, lent (c .before .before .before .before .before .before .args .out .now) (c .before .before .before .before .before .before .args .at) (c .before .before .before .before .before .before .args .w .now) _ (omega arith) (e .1))
+    (omega arith, lent (args .out .now) (args .at) (args .w .now) _ (omega arith) (e .1))
 
 pub append-spec : {M : Type 1} → statement M
 append-spec =
     tie.close
-    (tie.spec sub-put part-put-start part-put-end put-requires add-result same-length returns)
+    (tie.spec (λ c. search needs) (λ c. search needs) (λ c. search needs) (λ c κs. search needs) (λ c. search needs) (λ c. search needs) returns)

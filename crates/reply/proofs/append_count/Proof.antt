@@ -8,27 +8,16 @@ use borrow.Author.Needs.{needs}
 use Rattle.reply.proofs.append_count.Statement.{statement}
 use Rattle.reply.proofs.append_count.Tie as tie
 
-slice-aggregate-append : tie.Need-slice-aggregate-append
-slice-aggregate-append c = search needs
-
-append-requires : tie.Need-append-requires
-append-requires c κs = search needs
-
-append-decimal-requires : tie.Need-append-decimal-requires
-append-decimal-requires c κs = search needs
-
-same-length : tie.Need-same-length
-same-length c = search needs
-
 returns : tie.Need-returns
 returns c =
+    let append = c .before .before .before .before .before .before .append in
     let s = c .before .before .before .before .before .before .before .before .before .before in
     let h = c .before .before .append-decimal .ensures in
-    let g = c .before .before .before .before .before .before .append .ensures in
-    let i = into-into (s .args .at) (32 ∷ []) (decimal (s .args .n)) (s .args .out .now) (c .before .before .before .before .before .before .append .result) (omega arith) (omega (arith, s .pre)) in
+    let g = append .ensures in
+    let i = into-into (s .args .at) (32 ∷ []) (decimal (s .args .n)) (s .args .out .now) (append .result) (omega arith) (omega (arith, s .pre)) in
     (omega (arith, h .0), h .1 ∙ rw (g .1) i)
 
 pub append-count-spec : {M : Type 1} → statement M
 append-count-spec =
     tie.close
-    (tie.spec slice-aggregate-append append-requires append-decimal-requires same-length returns)
+    (tie.spec (λ c. search needs) (λ c κs. search needs) (λ c κs. search needs) (λ c. search needs) returns)

@@ -9,31 +9,18 @@ use borrow.Author.Needs.{needs}
 use Rattle.reply.proofs.coded.Statement.{statement}
 use Rattle.reply.proofs.coded.Tie as tie
 
-put-requires : tie.Need-put-requires
-put-requires c κs = search needs
-
-append-code-requires : tie.Need-append-code-requires
-append-code-requires c κs = search needs
-
-slice-aggregate-append : tie.Need-slice-aggregate-append
-slice-aggregate-append c = search needs
-
-append-requires : tie.Need-append-requires
-append-requires c κs = search needs
-
-same-length : tie.Need-same-length
-same-length c = search needs
-
 returns : tie.Need-returns
 returns c =
+    let append-code = c .before .before .before .before .before .before .before .append-code in
+    let put = c .before .before .before .before .before .before .before .before .before .before .before .put in
     let s = c .before .before .before .before .before .before .before .before .before .before .before .before .before .before .before in
     let l = s .args .out .now in
     let h = s .args .head .now in
     let code = s .args .code in
     let p = s .pre in
     let n = length-append h (twoDigits code) in
-    let a = first h l _ _ (c .before .before .before .before .before .before .before .before .before .before .before .put .ensures) in
-    let d = more h (twoDigits code) l _ _ _ _ a (c .before .before .before .before .before .before .before .append-code .ensures) (omega arith) in
+    let a = first h l _ _ (put .ensures) in
+    let d = more h (twoDigits code) l _ _ _ _ a (append-code .ensures) (omega arith) in
     let e = more (h ++ twoDigits code) tail l _ _ _ _ d (c .before .before .append .ensures) (omega arith) in
     (e .place, e .text)
 
@@ -41,9 +28,9 @@ pub coded-spec : {M : Type 1} → statement M
 coded-spec =
     tie.close
     (tie.spec
-    put-requires
-    append-code-requires
-    slice-aggregate-append
-    append-requires
-    same-length
+    (λ c κs. search needs)
+    (λ c κs. search needs)
+    (λ c. search needs)
+    (λ c κs. search needs)
+    (λ c. search needs)
     returns)

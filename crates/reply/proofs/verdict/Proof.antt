@@ -14,15 +14,6 @@ use borrow.Author.Needs.{needs}
 use Rattle.reply.proofs.verdict.Statement.{statement}
 use Rattle.reply.proofs.verdict.Tie as tie
 
-slice-aggregate-put : tie.Need-slice-aggregate-put
-slice-aggregate-put c = search needs
-
-put-requires : tie.Need-put-requires
-put-requires c κs = search needs
-
-append-code-requires : tie.Need-append-code-requires
-append-code-requires c κs = search needs
-
 append-field-requires : tie.Need-append-field-requires
 append-field-requires c κs =
     let s = c .before .before .before .before .before .before .before .before .before .before .before in
@@ -51,9 +42,6 @@ append-count-requires-2 c κs =
     let n = lengths (a .gm) (a .diff) (a .upper) (a .area) (s .fits .gm) (s .fits .diff) (s .pre .1) in
     omega (arith, s .pre .0)
 
-slice-aggregate-append : tie.Need-slice-aggregate-append
-slice-aggregate-append c = search needs
-
 append-requires : tie.Need-append-requires
 append-requires c κs =
     let s = c .before .before .before .before .before .before .before .before .before .before .before .before .before .before .before .before .before .before .before .before .before .before .before .before .before .before .before .before in
@@ -61,12 +49,15 @@ append-requires c κs =
     let n = lengths (a .gm) (a .diff) (a .upper) (a .area) (s .fits .gm) (s .fits .diff) (s .pre .1) in
     omega (arith, s .pre .0)
 
-same-length : tie.Need-same-length
-same-length c = search needs
-
 returns : tie.Need-returns
 unfolding verdictReply
 returns c =
+    let append-count2 = c .before .before .before .before .before .before .before .append-count2 in
+    let append-count = c .before .before .before .before .before .before .before .before .before .before .before .append-count in
+    let append-field2 = c .before .before .before .before .before .before .before .before .before .before .before .before .before .before .before .append-field2 in
+    let append-field = c .before .before .before .before .before .before .before .before .before .before .before .before .before .before .before .before .before .before .before .append-field in
+    let append-code = c .before .before .before .before .before .before .before .before .before .before .before .before .before .before .before .before .before .before .before .before .before .before .before .append-code in
+    let put = c .before .before .before .before .before .before .before .before .before .before .before .before .before .before .before .before .before .before .before .before .before .before .before .before .before .before .before .put in
     let s = c .before .before .before .before .before .before .before .before .before .before .before .before .before .before .before .before .before .before .before .before .before .before .before .before .before .before .before .before .before .before .before in
     let a = s .args in
     let n = lengths (a .gm) (a .diff) (a .upper) (a .area) (s .fits .gm) (s .fits .diff) (s .pre .1) in
@@ -83,14 +74,14 @@ returns c =
     let n5 : length v5 ≡ length v4 + suc (length (decimal (a .upper))) = length-append v4 (count (a .upper)) in
     let n6 : length v6 ≡ length v5 + suc (length (decimal (a .area))) = length-append v5 (count (a .area)) in
     let p = s .pre .0 in
-    let e3 = rw (toZ-ofZ {w = w64} {z = a .gm} (s .fits .gm)) at (c .before .before .before .before .before .before .before .before .before .before .before .before .before .before .before .before .before .before .before .append-field .ensures) in
-    let e4 = rw (toZ-ofZ {w = w64} {z = a .diff} (s .fits .diff)) at (c .before .before .before .before .before .before .before .before .before .before .before .before .before .before .before .append-field2 .ensures) in
-    let s1 = first v1 l _ _ (c .before .before .before .before .before .before .before .before .before .before .before .before .before .before .before .before .before .before .before .before .before .before .before .before .before .before .before .put .ensures) in
-    let s2 = more v1 (twoDigits (a .code)) l _ _ _ _ s1 (c .before .before .before .before .before .before .before .before .before .before .before .before .before .before .before .before .before .before .before .before .before .before .before .append-code .ensures) (omega arith) in
+    let e3 = rw (toZ-ofZ {w = w64} {z = a .gm} (s .fits .gm)) at (append-field .ensures) in
+    let e4 = rw (toZ-ofZ {w = w64} {z = a .diff} (s .fits .diff)) at (append-field2 .ensures) in
+    let s1 = first v1 l _ _ (put .ensures) in
+    let s2 = more v1 (twoDigits (a .code)) l _ _ _ _ s1 (append-code .ensures) (omega arith) in
     let s3 = more-field v2 (figure (a .gm)) l _ _ _ _ s2 e3 (omega arith) in
     let s4 = more-field v3 (figure (a .diff)) l _ _ _ _ s3 e4 (omega arith) in
-    let s5 = more-field v4 (decimal (a .upper)) l _ _ _ _ s4 (c .before .before .before .before .before .before .before .before .before .before .before .append-count .ensures) (omega arith) in
-    let s6 = more-field v5 (decimal (a .area)) l _ _ _ _ s5 (c .before .before .before .before .before .before .before .append-count2 .ensures) (omega arith) in
+    let s5 = more-field v4 (decimal (a .upper)) l _ _ _ _ s4 (append-count .ensures) (omega arith) in
+    let s6 = more-field v5 (decimal (a .area)) l _ _ _ _ s5 (append-count2 .ensures) (omega arith) in
     let s7 = more v6 tail l _ _ _ _ s6 (c .before .before .append .ensures) (omega arith) in
     (s7 .place, s7 .text)
 
@@ -98,14 +89,14 @@ pub verdict-spec : {M : Type 1} → statement M
 verdict-spec =
     tie.close
     (tie.spec
-    slice-aggregate-put
-    put-requires
-    append-code-requires
+    (λ c. search needs)
+    (λ c κs. search needs)
+    (λ c κs. search needs)
     append-field-requires
     append-field-requires-2
     append-count-requires
     append-count-requires-2
-    slice-aggregate-append
+    (λ c. search needs)
     append-requires
-    same-length
+    (λ c. search needs)
     returns)

@@ -10,18 +10,6 @@ use borrow.Author.Needs.{needs}
 use Rattle.request.proofs.drop_at.Statement.{statement}
 use Rattle.request.proofs.drop_at.Tie as tie
 
-number-at-requires : tie.Need-number-at-requires
-number-at-requires c κs = search needs
-
-enum-known-n : tie.Need-enum-known-n
-enum-known-n c = search needs
-
-enum-told : tie.Need-enum-told
-enum-told c = search needs
-
-no-form-requires : tie.Need-no-form-requires
-no-form-requires c κs = search needs
-
 returns : tie.Need-returns
 unfolding drop?
 returns c =
@@ -31,24 +19,23 @@ returns c =
 close-at-requires : tie.Need-close-at-requires
 close-at-requires c κs = let n = rw (c .before .n .given .1) at (c .before .before .before .number-at .ensures) in n .1
 
-plain-requires : tie.Need-plain-requires
-plain-requires c κs = search needs
-
 returns-2 : tie.Need-returns-2
 unfolding drop? carriedRequest
 returns-2 c =
-    let n = rw (c .before .before .before .n .given .1) at (c .before .before .before .before .before .number-at .ensures) in
-    rw (n .0) (ends-after carriedRequest (λ u. plain (DropLine (c .before .before .before .n .given .0 .0))) (close? (tokens (drop (c .before .before .before .n .given .0 .1 .0) (c .before .before .before .before .before .before .before .args .s .now)))) (c .before .before .before .before .before .before .before .args .s .now) _ tt (c .before .close-at .result) (c .before .close-at .ensures) (rw (c .plain .ensures)))
+    let n-given = c .before .before .before .n .given in
+    let args = c .before .before .before .before .before .before .before .args in
+    let n = rw (n-given .1) at (c .before .before .before .before .before .number-at .ensures) in
+    rw (n .0) (ends-after carriedRequest (λ u. plain (DropLine (n-given .0 .0))) (close? (tokens (drop (n-given .0 .1 .0) (args .s .now)))) (args .s .now) _ tt (c .before .close-at .result) (c .before .close-at .ensures) (rw (c .plain .ensures)))
 
 pub drop-at-spec : {M : Type 1} → statement M
 drop-at-spec =
     tie.close
     (tie.spec
-    number-at-requires
-    enum-known-n
-    enum-told
-    no-form-requires
+    (λ c κs. search needs)
+    (λ c. search needs)
+    (λ c. search needs)
+    (λ c κs. search needs)
     returns
     close-at-requires
-    plain-requires
+    (λ c κs. search needs)
     returns-2)

@@ -5,18 +5,6 @@ use borrow.Author.Needs.{needs}
 use Rattle.request.proofs.form_at.Statement.{statement}
 use Rattle.request.proofs.form_at.Tie as tie
 
-head-at-requires : tie.Need-head-at-requires
-head-at-requires c κs = search needs
-
-enum-known-a : tie.Need-enum-known-a
-enum-known-a c = search needs
-
-enum-told : tie.Need-enum-told
-enum-told c = search needs
-
-no-form-requires : tie.Need-no-form-requires
-no-form-requires c κs = search needs
-
 returns : tie.Need-returns
 unfolding form?
 returns c =
@@ -28,9 +16,6 @@ run-of-requires c κs =
     let k = c .before in
     let n = rw (k .a .given .1) at (k .before .before .head-at .ensures) in
     (n .1, n .0 .1)
-
-form-word-requires : tie.Need-form-word-requires
-form-word-requires c κs = search needs
 
 form-by-requires : tie.Need-form-by-requires
 form-by-requires c κs =
@@ -50,12 +35,12 @@ pub form-at-spec : {M : Type 1} → statement M
 form-at-spec =
     tie.close
     (tie.spec
-    head-at-requires
-    enum-known-a
-    enum-told
-    no-form-requires
+    (λ c κs. search needs)
+    (λ c. search needs)
+    (λ c. search needs)
+    (λ c κs. search needs)
     returns
     run-of-requires
-    form-word-requires
+    (λ c κs. search needs)
     form-by-requires
     returns-2)

@@ -8,54 +8,6 @@ use borrow.Author.Needs.{needs}
 use Rattle.request.proofs.form_by.Statement.{statement}
 use Rattle.request.proofs.form_by.Tie as tie
 
-enum-told : tie.Need-enum-told
-enum-told c = search needs
-
-ship-at-requires : tie.Need-ship-at-requires
-ship-at-requires c κs = search needs
-
-enum-told-2 : tie.Need-enum-told-2
-enum-told-2 c = search needs
-
-column-at-requires : tie.Need-column-at-requires
-column-at-requires c κs = search needs
-
-enum-told-3 : tie.Need-enum-told-3
-enum-told-3 c = search needs
-
-load-at-requires : tie.Need-load-at-requires
-load-at-requires c κs = search needs
-
-enum-told-4 : tie.Need-enum-told-4
-enum-told-4 c = search needs
-
-hold-at-requires : tie.Need-hold-at-requires
-hold-at-requires c κs = search needs
-
-enum-told-5 : tie.Need-enum-told-5
-enum-told-5 c = search needs
-
-drop-at-requires : tie.Need-drop-at-requires
-drop-at-requires c κs = search needs
-
-enum-told-6 : tie.Need-enum-told-6
-enum-told-6 c = search needs
-
-bare-at-requires : tie.Need-bare-at-requires
-bare-at-requires c κs = search needs
-
-enum-told-7 : tie.Need-enum-told-7
-enum-told-7 c = search needs
-
-bare-at-requires-2 : tie.Need-bare-at-requires-2
-bare-at-requires-2 c κs = search needs
-
-enum-told-8 : tie.Need-enum-told-8
-enum-told-8 c = search needs
-
-no-form-requires : tie.Need-no-form-requires
-no-form-requires c κs = search needs
-
 returns : tie.Need-returns
 returns c = rw (c .before .enum-told .given .1) (c .ship-at .ensures)
 
@@ -88,22 +40,22 @@ pub form-by-spec : {M : Type 1} → statement M
 form-by-spec =
     tie.close
     (tie.spec
-    enum-told
-    ship-at-requires
-    enum-told-2
-    column-at-requires
-    enum-told-3
-    load-at-requires
-    enum-told-4
-    hold-at-requires
-    enum-told-5
-    drop-at-requires
-    enum-told-6
-    bare-at-requires
-    enum-told-7
-    bare-at-requires-2
-    enum-told-8
-    no-form-requires
+    (λ c. search needs)
+    (λ c κs. search needs)
+    (λ c. search needs)
+    (λ c κs. search needs)
+    (λ c. search needs)
+    (λ c κs. search needs)
+    (λ c. search needs)
+    (λ c κs. search needs)
+    (λ c. search needs)
+    (λ c κs. search needs)
+    (λ c. search needs)
+    (λ c κs. search needs)
+    (λ c. search needs)
+    (λ c κs. search needs)
+    (λ c. search needs)
+    (λ c κs. search needs)
     returns
     returns-2
     returns-3

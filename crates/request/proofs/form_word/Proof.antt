@@ -6,31 +6,13 @@ use borrow.Author.Needs.{needs}
 use Rattle.request.proofs.form_word.Statement.{statement}
 use Rattle.request.proofs.form_word.Tie as tie
 
-slice-aggregate-same : tie.Need-slice-aggregate-same
-slice-aggregate-same c = search needs
-
-same-requires : tie.Need-same-requires
-same-requires c κs = search needs
-
 returns : tie.Need-returns
 unfolding formWord
 returns c = rw (sym (c .before .same .ensures) ∙ c .if1 .taken)
 
-slice-aggregate-same-2 : tie.Need-slice-aggregate-same-2
-slice-aggregate-same-2 c = search needs
-
-same-requires-2 : tie.Need-same-requires-2
-same-requires-2 c κs = search needs
-
 returns-2 : tie.Need-returns-2
 unfolding formWord
 returns-2 c = rw (sym (c .before .before .before .before .same .ensures) ∙ c .before .before .before .if1 .left, sym (c .before .same2 .ensures) ∙ c .if2 .taken)
-
-slice-aggregate-same-3 : tie.Need-slice-aggregate-same-3
-slice-aggregate-same-3 c = search needs
-
-same-requires-3 : tie.Need-same-requires-3
-same-requires-3 c κs = search needs
 
 returns-3 : tie.Need-returns-3
 unfolding formWord
@@ -38,24 +20,12 @@ returns-3 c =
     let d2 = c .before .before .before in
     rw (sym (d2 .before .before .before .before .same .ensures) ∙ d2 .before .before .before .if1 .left, sym (d2 .before .same2 .ensures) ∙ d2 .if2 .left, sym (c .before .same3 .ensures) ∙ c .if3 .taken)
 
-slice-aggregate-same-4 : tie.Need-slice-aggregate-same-4
-slice-aggregate-same-4 c = search needs
-
-same-requires-4 : tie.Need-same-requires-4
-same-requires-4 c κs = search needs
-
 returns-4 : tie.Need-returns-4
 unfolding formWord
 returns-4 c =
     let d3 = c .before .before .before in
     let d2 = d3 .before .before .before in
     rw (sym (d2 .before .before .before .before .same .ensures) ∙ d2 .before .before .before .if1 .left, sym (d2 .before .same2 .ensures) ∙ d2 .if2 .left, sym (d3 .before .same3 .ensures) ∙ d3 .if3 .left, sym (c .before .same4 .ensures) ∙ c .if4 .taken)
-
-slice-aggregate-same-5 : tie.Need-slice-aggregate-same-5
-slice-aggregate-same-5 c = search needs
-
-same-requires-5 : tie.Need-same-requires-5
-same-requires-5 c κs = search needs
 
 returns-5 : tie.Need-returns-5
 unfolding formWord
@@ -65,12 +35,6 @@ returns-5 c =
     let d2 = d3 .before .before .before in
     rw (sym (d2 .before .before .before .before .same .ensures) ∙ d2 .before .before .before .if1 .left, sym (d2 .before .same2 .ensures) ∙ d2 .if2 .left, sym (d3 .before .same3 .ensures) ∙ d3 .if3 .left, sym (d4 .before .same4 .ensures) ∙ d4 .if4 .left, sym (c .before .same5 .ensures) ∙ c .if5 .taken)
 
-slice-aggregate-same-6 : tie.Need-slice-aggregate-same-6
-slice-aggregate-same-6 c = search needs
-
-same-requires-6 : tie.Need-same-requires-6
-same-requires-6 c κs = search needs
-
 returns-6 : tie.Need-returns-6
 unfolding formWord
 returns-6 c =
@@ -79,12 +43,6 @@ returns-6 c =
     let d3 = d4 .before .before .before in
     let d2 = d3 .before .before .before in
     rw (sym (d2 .before .before .before .before .same .ensures) ∙ d2 .before .before .before .if1 .left, sym (d2 .before .same2 .ensures) ∙ d2 .if2 .left, sym (d3 .before .same3 .ensures) ∙ d3 .if3 .left, sym (d4 .before .same4 .ensures) ∙ d4 .if4 .left, sym (d5 .before .same5 .ensures) ∙ d5 .if5 .left, sym (c .before .same6 .ensures) ∙ c .if6 .taken)
-
-slice-aggregate-same-7 : tie.Need-slice-aggregate-same-7
-slice-aggregate-same-7 c = search needs
-
-same-requires-7 : tie.Need-same-requires-7
-same-requires-7 c κs = search needs
 
 returns-7 : tie.Need-returns-7
 unfolding formWord
@@ -110,25 +68,25 @@ pub form-word-spec : {M : Type 1} → statement M
 form-word-spec =
     tie.close
     (tie.spec
-    slice-aggregate-same
-    same-requires
+    (λ c. search needs)
+    (λ c κs. search needs)
     returns
-    slice-aggregate-same-2
-    same-requires-2
+    (λ c. search needs)
+    (λ c κs. search needs)
     returns-2
-    slice-aggregate-same-3
-    same-requires-3
+    (λ c. search needs)
+    (λ c κs. search needs)
     returns-3
-    slice-aggregate-same-4
-    same-requires-4
+    (λ c. search needs)
+    (λ c κs. search needs)
     returns-4
-    slice-aggregate-same-5
-    same-requires-5
+    (λ c. search needs)
+    (λ c κs. search needs)
     returns-5
-    slice-aggregate-same-6
-    same-requires-6
+    (λ c. search needs)
+    (λ c κs. search needs)
     returns-6
-    slice-aggregate-same-7
-    same-requires-7
+    (λ c. search needs)
+    (λ c κs. search needs)
     returns-7
     returns-8)

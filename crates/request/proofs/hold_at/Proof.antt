@@ -5,18 +5,6 @@ use borrow.Author.Needs.{needs}
 use Rattle.request.proofs.hold_at.Statement.{statement}
 use Rattle.request.proofs.hold_at.Tie as tie
 
-number-at-requires : tie.Need-number-at-requires
-number-at-requires c κs = search needs
-
-enum-known-n : tie.Need-enum-known-n
-enum-known-n c = search needs
-
-enum-told : tie.Need-enum-told
-enum-told c = search needs
-
-no-form-requires : tie.Need-no-form-requires
-no-form-requires c κs = search needs
-
 returns : tie.Need-returns
 unfolding hold?
 returns c =
@@ -28,15 +16,6 @@ span-at-requires c κs =
     let j = c .before in
     let m = rw (j .n .given .1) at (j .before .before .number-at .ensures) in
     m .1
-
-enum-known-a : tie.Need-enum-known-a
-enum-known-a c = search needs
-
-enum-told-2 : tie.Need-enum-told-2
-enum-told-2 c = search needs
-
-no-form-requires-2 : tie.Need-no-form-requires-2
-no-form-requires-2 c κs = search needs
 
 returns-2 : tie.Need-returns-2
 unfolding hold?
@@ -51,18 +30,6 @@ run-of-requires c κs =
     let k = c .before in
     let n = rw (k .a .given .1) at (k .before .before .span-at .ensures) in
     (n .1, n .0 .1)
-
-mode-named-requires : tie.Need-mode-named-requires
-mode-named-requires c κs = search needs
-
-enum-known-mode : tie.Need-enum-known-mode
-enum-known-mode c = search needs
-
-enum-told-3 : tie.Need-enum-told-3
-enum-told-3 c = search needs
-
-no-form-requires-3 : tie.Need-no-form-requires-3
-no-form-requires-3 c κs = search needs
 
 returns-3 : tie.Need-returns-3
 unfolding hold?
@@ -94,21 +61,21 @@ pub hold-at-spec : {M : Type 1} → statement M
 hold-at-spec =
     tie.close
     (tie.spec
-    number-at-requires
-    enum-known-n
-    enum-told
-    no-form-requires
+    (λ c κs. search needs)
+    (λ c. search needs)
+    (λ c. search needs)
+    (λ c κs. search needs)
     returns
     span-at-requires
-    enum-known-a
-    enum-told-2
-    no-form-requires-2
+    (λ c. search needs)
+    (λ c. search needs)
+    (λ c κs. search needs)
     returns-2
     run-of-requires
-    mode-named-requires
-    enum-known-mode
-    enum-told-3
-    no-form-requires-3
+    (λ c κs. search needs)
+    (λ c. search needs)
+    (λ c. search needs)
+    (λ c κs. search needs)
     returns-3
     parts-at-requires
     returns-4)

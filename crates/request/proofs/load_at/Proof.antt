@@ -14,18 +14,6 @@ use borrow.Author.Needs.{needs}
 use Rattle.request.proofs.load_at.Statement.{statement}
 use Rattle.request.proofs.load_at.Tie as tie
 
-number-at-requires : tie.Need-number-at-requires
-number-at-requires c κs = search needs
-
-enum-known-d : tie.Need-enum-known-d
-enum-known-d c = search needs
-
-enum-told : tie.Need-enum-told
-enum-told c = search needs
-
-no-form-requires : tie.Need-no-form-requires
-no-form-requires c κs = search needs
-
 returns : tie.Need-returns
 unfolding load?
 returns c =
@@ -37,34 +25,28 @@ sizes-at-requires c κs =
     let n = rw (c .before .d .given .1) at (c .before .before .before .number-at .ensures) in
     (n .1, omega arith)
 
-array-read-t12 : tie.Need-array-read-t12
-array-read-t12 c = search needs
-
-array-read-t15 : tie.Need-array-read-t15
-array-read-t15 c = search needs
-
-plain-requires : tie.Need-plain-requires
-plain-requires c κs = search needs
-
 returns-2 : tie.Need-returns-2
 unfolding load? carriedRequest
 returns-2 c =
-    let n = rw (c .before .before .before .before .d .given .1) at (c .before .before .before .before .before .before .number-at .ensures) in
+    let d-given = c .before .before .before .before .d .given in
+    let number-at = c .before .before .before .before .before .before .number-at in
+    let args = c .before .before .before .before .before .before .before .before .args in
+    let n = rw (d-given .1) at (number-at .ensures) in
     let v = c .before .before .sizes-at .result .values in
-    rw (n .0) (ends-built carriedRequest (λ x. plain (LoadLine (record { d = c .before .before .before .before .d .given .0 .0; kg = nth x 0; fs = nth x 1 }))) (lastNumbers? 2 (tokens (drop (c .before .before .before .before .d .given .0 .1 .0) (c .before .before .before .before .before .before .before .before .args .s .now)))) (c .before .before .before .before .before .before .before .before .args .s .now) _ (map carried) (take 2 v) (c .before .before .sizes-at .result .end) (c .before .before .sizes-at .ensures)
+    rw (n .0) (ends-built carriedRequest (λ x. plain (LoadLine (record { d = d-given .0 .0; kg = nth x 0; fs = nth x 1 }))) (lastNumbers? 2 (tokens (drop (d-given .0 .1 .0) (args .s .now)))) (args .s .now) _ (map carried) (take 2 v) (c .before .before .sizes-at .result .end) (c .before .before .sizes-at .ensures)
     (λ x e. rw (c .plain .ensures, nth-kept 2 v x 0 e (omega arith), nth-kept 2 v x 1 e (omega arith))))
 
 pub load-at-spec : {M : Type 1} → statement M
 load-at-spec =
     tie.close
     (tie.spec
-    number-at-requires
-    enum-known-d
-    enum-told
-    no-form-requires
+    (λ c κs. search needs)
+    (λ c. search needs)
+    (λ c. search needs)
+    (λ c κs. search needs)
     returns
     sizes-at-requires
-    array-read-t12
-    array-read-t15
-    plain-requires
+    (λ c. search needs)
+    (λ c. search needs)
+    (λ c κs. search needs)
     returns-2)

@@ -17,18 +17,6 @@ use borrow.Author.Needs.{needs}
 use Rattle.request.proofs.parts_at.Statement.{statement}
 use Rattle.request.proofs.parts_at.Tie as tie
 
-size-at-requires : tie.Need-size-at-requires
-size-at-requires c κs = search needs
-
-enum-known-factor : tie.Need-enum-known-factor
-enum-known-factor c = search needs
-
-enum-told : tie.Need-enum-told
-enum-told c = search needs
-
-no-form-requires : tie.Need-no-form-requires
-no-form-requires c κs = search needs
-
 returns : tie.Need-returns
 unfolding parts?
 returns c =
@@ -40,38 +28,39 @@ part-list-at-requires c κs =
     let n = rw (c .before .factor .given .1) at (c .before .before .before .size-at .ensures) in
     n .1
 
-no-form-requires-2 : tie.Need-no-form-requires-2
-no-form-requires-2 c κs = search needs
-
 returns-2 : tie.Need-returns-2
 unfolding parts?
 returns-2 c =
-    let n = rw (c .before .before .before .before .factor .given .1) at (c .before .before .before .before .before .before .size-at .ensures) in
-    let i = carries carried (number? (tokens (drop (c .before .before .before .before .before .before .before .before .args .at) (c .before .before .before .before .before .before .before .before .args .s .now)))) (c .before .before .before .before .factor .given .0 .0) (tokens (drop (c .before .before .before .before .factor .given .0 .1 .0) (c .before .before .before .before .before .before .before .before .args .s .now))) (n .0) in
-    rw (c .no-form2 .ensures .1, i .is) (no-items carriedRequest (λ xs. holdRequest (c .before .before .before .before .before .before .before .before .args .n) (holdRecord (c .before .before .before .before .before .before .before .before .args .mode) (i .read) xs)) carriedPart (items? 6 (part? (c .before .before .before .before .before .before .before .before .args .mode)) (tokens (drop (c .before .before .before .before .factor .given .0 .1 .0) (c .before .before .before .before .before .before .before .before .args .s .now)))) (c .before .before .before .before .before .before .before .before .args .s .now) 6 noPart (c .before .before .part-list-at .result .count) (c .before .before .part-list-at .result .parts) (c .before .before .part-list-at .result .end) (c .before .before .part-list-at .ensures) (c .before .if1 .taken))
-
-no-column-requires : tie.Need-no-column-requires
-no-column-requires c κs = search needs
+    let factor-given = c .before .before .before .before .factor .given in
+    let size-at = c .before .before .before .before .before .before .size-at in
+    let args = c .before .before .before .before .before .before .before .before .args in
+    let n = rw (factor-given .1) at (size-at .ensures) in
+    let i = carries carried (number? (tokens (drop (args .at) (args .s .now)))) (factor-given .0 .0) (tokens (drop (factor-given .0 .1 .0) (args .s .now))) (n .0) in
+    rw (c .no-form2 .ensures .1, i .is) (no-items carriedRequest (λ xs. holdRequest (args .n) (holdRecord (args .mode) (i .read) xs)) carriedPart (items? 6 (part? (args .mode)) (tokens (drop (factor-given .0 .1 .0) (args .s .now)))) (args .s .now) 6 noPart (c .before .before .part-list-at .result .count) (c .before .before .part-list-at .result .parts) (c .before .before .part-list-at .result .end) (c .before .before .part-list-at .ensures) (c .before .if1 .taken))
 
 returns-3 : tie.Need-returns-3
 unfolding parts?
 returns-3 c =
-    let n = rw (c .before .before .before .before .before .factor .given .1) at (c .before .before .before .before .before .before .before .size-at .ensures) in
-    let i = carries carried (number? (tokens (drop (c .before .before .before .before .before .before .before .before .before .args .at) (c .before .before .before .before .before .before .before .before .before .args .s .now)))) (c .before .before .before .before .before .factor .given .0 .0) (tokens (drop (c .before .before .before .before .before .factor .given .0 .1 .0) (c .before .before .before .before .before .before .before .before .before .args .s .now))) (n .0) in
-    rw (i .is) (some-items carriedRequest (λ xs. holdRequest (c .before .before .before .before .before .before .before .before .before .args .n) (holdRecord (c .before .before .before .before .before .before .before .before .before .args .mode) (i .read) xs)) carriedPart (items? 6 (part? (c .before .before .before .before .before .before .before .before .before .args .mode)) (tokens (drop (c .before .before .before .before .before .factor .given .0 .1 .0) (c .before .before .before .before .before .before .before .before .before .args .s .now)))) (c .before .before .before .before .before .before .before .before .before .args .s .now) 6 noPart (c .before .before .before .part-list-at .result .count) (c .before .before .before .part-list-at .result .parts) _ (c .before .before .before .part-list-at .result .end) (c .before .before .before .part-list-at .ensures) (omega arith)
-    (λ xs l e. hold-kept (c .before .before .before .before .before .before .before .before .before .args .n) (c .before .before .before .before .before .before .before .before .before .args .mode) (i .read) xs ∙ rw (c .no-column .ensures, ← i .kept, l, ← e)))
+    let part-list-at = c .before .before .before .part-list-at in
+    let factor-given = c .before .before .before .before .before .factor .given in
+    let size-at = c .before .before .before .before .before .before .before .size-at in
+    let args = c .before .before .before .before .before .before .before .before .before .args in
+    let n = rw (factor-given .1) at (size-at .ensures) in
+    let i = carries carried (number? (tokens (drop (args .at) (args .s .now)))) (factor-given .0 .0) (tokens (drop (factor-given .0 .1 .0) (args .s .now))) (n .0) in
+    rw (i .is) (some-items carriedRequest (λ xs. holdRequest (args .n) (holdRecord (args .mode) (i .read) xs)) carriedPart (items? 6 (part? (args .mode)) (tokens (drop (factor-given .0 .1 .0) (args .s .now)))) (args .s .now) 6 noPart (part-list-at .result .count) (part-list-at .result .parts) _ (part-list-at .result .end) (part-list-at .ensures) (omega arith)
+    (λ xs l e. hold-kept (args .n) (args .mode) (i .read) xs ∙ rw (c .no-column .ensures, ← i .kept, l, ← e)))
 
 pub parts-at-spec : {M : Type 1} → statement M
 parts-at-spec =
     tie.close
     (tie.spec
-    size-at-requires
-    enum-known-factor
-    enum-told
-    no-form-requires
+    (λ c κs. search needs)
+    (λ c. search needs)
+    (λ c. search needs)
+    (λ c κs. search needs)
     returns
     part-list-at-requires
-    no-form-requires-2
+    (λ c κs. search needs)
     returns-2
-    no-column-requires
+    (λ c κs. search needs)
     returns-3)

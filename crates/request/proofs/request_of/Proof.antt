@@ -11,18 +11,6 @@ use borrow.Author.Needs.{needs}
 use Rattle.request.proofs.request_of.Statement.{statement}
 use Rattle.request.proofs.request_of.Tie as tie
 
-form-at-requires : tie.Need-form-at-requires
-form-at-requires c κs = search needs
-
-enum-known-end : tie.Need-enum-known-end
-enum-known-end c = search needs
-
-enum-told : tie.Need-enum-told
-enum-told c = search needs
-
-plain-requires : tie.Need-plain-requires
-plain-requires c κs = search needs
-
 returns : tie.Need-returns
 unfolding requestOf carriedRequest
 returns c =
@@ -35,30 +23,33 @@ ends-at-requires c κs = let n = rw (c .before .end .given .1) at (c .before .be
 returns-2 : tie.Need-returns-2
 unfolding requestOf
 returns-2 c =
-    let n = rw (c .before .before .before .before .end .given .1) at (c .before .before .before .before .before .before .form-at .ensures) in
-    let i = carries carriedRequest (form? (tokens (c .before .before .before .before .before .before .before .before .args .line .now))) (c .before .before .before .before .before .before .form-at .result .request) (tokens (drop (c .before .before .before .before .end .given .0 .0) (c .before .before .before .before .before .before .before .before .args .line .now))) (n .0) in
-    rw (i .is, whole-end (i .read) (plain NoShape) (tokens (drop (c .before .before .before .before .end .given .0 .0) (c .before .before .before .before .before .before .before .before .args .line .now))) (sym (c .before .before .ends-at .ensures) ∙ c .before .if1 .taken)) (i .kept)
-
-plain-requires-2 : tie.Need-plain-requires-2
-plain-requires-2 c κs = search needs
+    let end-given = c .before .before .before .before .end .given in
+    let form-at = c .before .before .before .before .before .before .form-at in
+    let args = c .before .before .before .before .before .before .before .before .args in
+    let n = rw (end-given .1) at (form-at .ensures) in
+    let i = carries carriedRequest (form? (tokens (args .line .now))) (form-at .result .request) (tokens (drop (end-given .0 .0) (args .line .now))) (n .0) in
+    rw (i .is, whole-end (i .read) (plain NoShape) (tokens (drop (end-given .0 .0) (args .line .now))) (sym (c .before .before .ends-at .ensures) ∙ c .before .if1 .taken)) (i .kept)
 
 returns-3 : tie.Need-returns-3
 unfolding requestOf carriedRequest
 returns-3 c =
-    let n = rw (c .before .before .before .before .end .given .1) at (c .before .before .before .before .before .before .form-at .ensures) in
-    let i = carries carriedRequest (form? (tokens (c .before .before .before .before .before .before .before .before .args .line .now))) (c .before .before .before .before .before .before .form-at .result .request) (tokens (drop (c .before .before .before .before .end .given .0 .0) (c .before .before .before .before .before .before .before .before .args .line .now))) (n .0) in
-    rw (c .plain2 .ensures, i .is, whole-more (i .read) (plain NoShape) (tokens (drop (c .before .before .before .before .end .given .0 .0) (c .before .before .before .before .before .before .before .before .args .line .now))) (sym (c .before .before .ends-at .ensures) ∙ c .before .if1 .left))
+    let end-given = c .before .before .before .before .end .given in
+    let form-at = c .before .before .before .before .before .before .form-at in
+    let args = c .before .before .before .before .before .before .before .before .args in
+    let n = rw (end-given .1) at (form-at .ensures) in
+    let i = carries carriedRequest (form? (tokens (args .line .now))) (form-at .result .request) (tokens (drop (end-given .0 .0) (args .line .now))) (n .0) in
+    rw (c .plain2 .ensures, i .is, whole-more (i .read) (plain NoShape) (tokens (drop (end-given .0 .0) (args .line .now))) (sym (c .before .before .ends-at .ensures) ∙ c .before .if1 .left))
 
 pub request-of-spec : {M : Type 1} → statement M
 request-of-spec =
     tie.close
     (tie.spec
-    form-at-requires
-    enum-known-end
-    enum-told
-    plain-requires
+    (λ c κs. search needs)
+    (λ c. search needs)
+    (λ c. search needs)
+    (λ c κs. search needs)
     returns
     ends-at-requires
     returns-2
-    plain-requires-2
+    (λ c κs. search needs)
     returns-3)

@@ -6,21 +6,9 @@ use borrow.Author.Needs.{needs}
 use Rattle.request.proofs.rule_named.Statement.{statement}
 use Rattle.request.proofs.rule_named.Tie as tie
 
-slice-aggregate-same : tie.Need-slice-aggregate-same
-slice-aggregate-same c = search needs
-
-same-requires : tie.Need-same-requires
-same-requires c κs = search needs
-
 returns : tie.Need-returns
 unfolding ruleNamed
 returns c = rw (sym (c .before .same .ensures) ∙ c .if1 .taken)
-
-slice-aggregate-same-2 : tie.Need-slice-aggregate-same-2
-slice-aggregate-same-2 c = search needs
-
-same-requires-2 : tie.Need-same-requires-2
-same-requires-2 c κs = search needs
 
 returns-2 : tie.Need-returns-2
 unfolding ruleNamed
@@ -34,10 +22,10 @@ pub rule-named-spec : {M : Type 1} → statement M
 rule-named-spec =
     tie.close
     (tie.spec
-    slice-aggregate-same
-    same-requires
+    (λ c. search needs)
+    (λ c κs. search needs)
     returns
-    slice-aggregate-same-2
-    same-requires-2
+    (λ c. search needs)
+    (λ c κs. search needs)
     returns-2
     returns-3)

@@ -14,18 +14,6 @@ use borrow.Author.Needs.{needs}
 use Rattle.request.proofs.ship_at.Statement.{statement}
 use Rattle.request.proofs.ship_at.Tie as tie
 
-span-at-requires : tie.Need-span-at-requires
-span-at-requires c κs = search needs
-
-enum-known-a : tie.Need-enum-known-a
-enum-known-a c = search needs
-
-enum-told : tie.Need-enum-told
-enum-told c = search needs
-
-no-form-requires : tie.Need-no-form-requires
-no-form-requires c κs = search needs
-
 returns : tie.Need-returns
 unfolding ship?
 returns c =
@@ -37,18 +25,6 @@ run-of-requires c κs =
     let k = c .before in
     let n = rw (k .a .given .1) at (k .before .before .span-at .ensures) in
     (n .1, n .0 .1)
-
-rule-named-requires : tie.Need-rule-named-requires
-rule-named-requires c κs = search needs
-
-enum-known-word : tie.Need-enum-known-word
-enum-known-word c = search needs
-
-enum-told-2 : tie.Need-enum-told-2
-enum-told-2 c = search needs
-
-no-form-requires-2 : tie.Need-no-form-requires-2
-no-form-requires-2 c κs = search needs
 
 returns-2 : tie.Need-returns-2
 unfolding ship?
@@ -63,18 +39,6 @@ sizes-at-requires c κs =
     let k = c .before .before .before .before .before .before in
     let n = rw (k .a .given .1) at (k .before .before .span-at .ensures) in
     (n .0 .1, omega arith)
-
-array-read-rule-of : tie.Need-array-read-rule-of
-array-read-rule-of c = search needs
-
-rule-of-requires : tie.Need-rule-of-requires
-rule-of-requires c κs = search needs
-
-array-read-t19 : tie.Need-array-read-t19
-array-read-t19 c = search needs
-
-plain-requires : tie.Need-plain-requires
-plain-requires c κs = search needs
 
 returns-3 : tie.Need-returns-3
 unfolding ship? carriedRequest
@@ -93,20 +57,20 @@ pub ship-at-spec : {M : Type 1} → statement M
 ship-at-spec =
     tie.close
     (tie.spec
-    span-at-requires
-    enum-known-a
-    enum-told
-    no-form-requires
+    (λ c κs. search needs)
+    (λ c. search needs)
+    (λ c. search needs)
+    (λ c κs. search needs)
     returns
     run-of-requires
-    rule-named-requires
-    enum-known-word
-    enum-told-2
-    no-form-requires-2
+    (λ c κs. search needs)
+    (λ c. search needs)
+    (λ c. search needs)
+    (λ c κs. search needs)
     returns-2
     sizes-at-requires
-    array-read-rule-of
-    rule-of-requires
-    array-read-t19
-    plain-requires
+    (λ c. search needs)
+    (λ c κs. search needs)
+    (λ c. search needs)
+    (λ c κs. search needs)
     returns-3)

@@ -17,15 +17,6 @@ Inv-loop max-lines max-bytes block₀ line₀ out₀ f₀ more₀ n₀ at₀ goi
 abbrev μ-loop : tie.MeasureT-loop
 μ-loop max-lines max-bytes block₀ line₀ out₀ f₀ more₀ n₀ at₀ going₀ block line out f more n at going = 2 * more + (n - at) + cond going 65537 0
 
-large-buffer-requires : tie.Need-large-buffer-requires Inv-loop μ-loop
-large-buffer-requires c κs = search needs
-
-large-buffer-requires-2 : tie.Need-large-buffer-requires-2 Inv-loop μ-loop
-large-buffer-requires-2 c κs = search needs
-
-start-requires : tie.Need-start-requires Inv-loop μ-loop
-start-requires c κs = search needs
-
 loop-holds : tie.Need-loop-holds Inv-loop μ-loop
 loop-holds c =
     let a = c .before .before .before .args in
@@ -42,17 +33,8 @@ loop-holds c =
       stops = λ e. not-both true refl e;
     }
 
-array-share-prefix-block : tie.Need-array-share-prefix-block Inv-loop μ-loop
-array-share-prefix-block c = search needs
-
 slice-aggregate-feed-block : tie.Need-slice-aggregate-feed-block Inv-loop μ-loop
 slice-aggregate-feed-block c = sym (length-take-le _ _ (omega (arith, c .before .before .before .loop .inv .came, c .before .before .before .loop .inv .blockLong)))
-
-slice-aggregate-feed-block-2 : tie.Need-slice-aggregate-feed-block-2 Inv-loop μ-loop
-slice-aggregate-feed-block-2 c = search needs
-
-slice-aggregate-feed-block-3 : tie.Need-slice-aggregate-feed-block-3 Inv-loop μ-loop
-slice-aggregate-feed-block-3 c = search needs
 
 feed-block-requires : tie.Need-feed-block-requires Inv-loop μ-loop
 feed-block-requires c κs =
@@ -63,29 +45,30 @@ feed-block-requires c κs =
     )
 
 array-share-prefix-out : tie.Need-array-share-prefix-out Inv-loop μ-loop
-array-share-prefix-out c = omega (arith, c .before .before .feed-block .ensures .room, c .before .before .feed-block .kept .1 .1 .1 .1 .0, c .before .before .before .before .before .before .before .before .loop .inv .outLong)
+array-share-prefix-out c =
+    let loop = c .before .before .before .before .before .before .before .before .loop in
+    omega (arith, c .before .before .feed-block .ensures .room, c .before .before .feed-block .kept .1 .1 .1 .1 .0, loop .inv .outLong)
 
 slice-aggregate-write-out : tie.Need-slice-aggregate-write-out Inv-loop μ-loop
-slice-aggregate-write-out c = sym (length-take-le _ _ (omega (arith, c .before .before .before .feed-block .ensures .room, c .before .before .before .feed-block .kept .1 .1 .1 .1 .0, c .before .before .before .before .before .before .before .before .before .loop .inv .outLong)))
-
-write-out-requires : tie.Need-write-out-requires Inv-loop μ-loop
-write-out-requires c κs = search needs
-
-returns : tie.Need-returns Inv-loop μ-loop
-returns c = search needs
-
-emptied-requires : tie.Need-emptied-requires Inv-loop μ-loop
-emptied-requires c κs = search needs
+slice-aggregate-write-out c =
+    let loop = c .before .before .before .before .before .before .before .before .before .loop in
+    sym (length-take-le _ _ (omega (arith, c .before .before .before .feed-block .ensures .room, c .before .before .before .feed-block .kept .1 .1 .1 .1 .0, loop .inv .outLong)))
 
 loop-less : tie.Need-loop-less Inv-loop μ-loop
-loop-less c = omega (arith, c .before .before .before .before .before .before .feed-block .ensures .onward, c .before .before .before .before .before .before .before .before .before .before .if1 .taken)
+loop-less c =
+    let feed-block = c .before .before .before .before .before .before .feed-block in
+    let if1 = c .before .before .before .before .before .before .before .before .before .before .if1 in
+    omega (arith, feed-block .ensures .onward, if1 .taken)
 
 loop-again : tie.Need-loop-again Inv-loop μ-loop
 loop-again c =
-    let l = c .before .before .before .before .before .before .before .before .before .before .before .before .loop in
+    let feed-block = c .before .before .before .before .before .before .feed-block in
+    let loop-test = c .before .before .before .before .before .before .before .before .before .before .before .loop-test in
+    let loop = c .before .before .before .before .before .before .before .before .before .before .before .before .loop in
+    let l = loop in
     let v = l .inv in
-    let b = c .before .before .before .before .before .before .feed-block in
-    let g = c .before .before .before .before .before .before .before .before .before .before .before .loop-test .taken in
+    let b = feed-block in
+    let g = loop-test .taken in
     rw (c .emptied .ensures) (record {
       blockLong = v .blockLong;
       lineLong = b .kept .1 .1 .1 .0 ∙ v .lineLong;
@@ -97,9 +80,6 @@ loop-again c =
       goes = λ e. serving-fed (v .goes g) (take (l .n) (l .block)) (l .at) (b .result) _ _ refl (b .ensures);
       stops = λ e. not-both (l .going) g e;
     })
-
-to-ask-requires : tie.Need-to-ask-requires Inv-loop μ-loop
-to-ask-requires c κs = search needs
 
 loop-less-2 : tie.Need-loop-less-2 Inv-loop μ-loop
 loop-less-2 c = rw (c .before .before .before .loop-test .taken) (omega arith)
@@ -121,32 +101,32 @@ loop-again-2 c =
       stops = λ e. over-asked (v .goes (c .before .before .before .loop-test .taken)) u (v .used) (v .lineLong) (l .n) (rw (c .if3 .taken) at (c .before .to-ask .ensures));
     }
 
-slice-aggregate-fetch : tie.Need-slice-aggregate-fetch Inv-loop μ-loop
-slice-aggregate-fetch c = search needs
-
 fetch-requires : tie.Need-fetch-requires Inv-loop μ-loop
 fetch-requires c κs = omega (arith, c .before .before .to-ask .ensures .room, c .before .before .before .before .before .loop .inv .blockLong)
 
 tell-requires : tie.Need-tell-requires Inv-loop μ-loop
 tell-requires c κs p = omega (arith, c .before .fetch .ensures, c .before .before .before .before .to-ask .ensures .within p)
 
-enum-told : tie.Need-enum-told Inv-loop μ-loop
-enum-told c = search needs
-
 sub-more : tie.Need-sub-more Inv-loop μ-loop
 sub-more c = let t = rw (c .enum-told .given .1) at (c .before .before .tell .ensures) in omega (arith, t)
 
 loop-less-3 : tie.Need-loop-less-3 Inv-loop μ-loop
-loop-less-3 c = let t = rw (c .enum-told .given .1) at (c .before .before .tell .ensures) in omega (arith, t, c .before .before .before .before .before .before .before .before .if1 .left)
+loop-less-3 c =
+    let if1 = c .before .before .before .before .before .before .before .before .if1 in
+    let t = rw (c .enum-told .given .1) at (c .before .before .tell .ensures) in omega (arith, t, if1 .left)
 
 loop-again-3 : tie.Need-loop-again-3 Inv-loop μ-loop
 loop-again-3 c =
-    let l = c .before .before .before .before .before .before .before .before .before .before .loop in
+    let to-ask = c .before .before .before .before .before .before .before .to-ask in
+    let if1 = c .before .before .before .before .before .before .before .before .if1 in
+    let loop-test = c .before .before .before .before .before .before .before .before .before .loop-test in
+    let loop = c .before .before .before .before .before .before .before .before .before .before .loop in
+    let l = loop in
     let v = l .inv in
     let n = c .before .before .before .before .fetch in
     let t = rw (c .enum-told .given .1) at (c .before .before .tell .ensures) in
-    let u = used-up (l .block) (l .n) (l .at) (omega (arith, c .before .before .before .before .before .before .before .before .if1 .left)) in
-    let m : n .result ≤ 65536 = omega (arith, n .ensures, c .before .before .before .before .before .before .before .to-ask .ensures .room) in
+    let u = used-up (l .block) (l .n) (l .at) (omega (arith, if1 .left)) in
+    let m : n .result ≤ 65536 = omega (arith, n .ensures, to-ask .ensures .room) in
     record {
       blockLong = n .kept .0 ∙ v .blockLong;
       lineLong = v .lineLong;
@@ -156,25 +136,30 @@ loop-again-3 c =
       came = m;
       written = v .written;
       goes = λ e. serving-read (v .goes e) u (n .result) (take (n .result) (n .last .0)) (length-take-le (n .result) (n .last .0) (omega (arith, n .kept .0, v .blockLong))) (t .1);
-      stops = λ e. not-both (l .going) (c .before .before .before .before .before .before .before .before .before .loop-test .taken) e;
+      stops = λ e. not-both (l .going) (loop-test .taken) e;
     }
 
-enum-told-2 : tie.Need-enum-told-2 Inv-loop μ-loop
-enum-told-2 c = search needs
-
 loop-less-4 : tie.Need-loop-less-4 Inv-loop μ-loop
-loop-less-4 c = rw (c .before .before .before .before .before .before .before .before .before .loop-test .taken) (omega (arith, c .before .before .before .before .fetch .ensures, c .before .before .before .before .before .before .before .to-ask .ensures .room))
+loop-less-4 c =
+    let to-ask = c .before .before .before .before .before .before .before .to-ask in
+    let loop-test = c .before .before .before .before .before .before .before .before .before .loop-test in
+    rw (loop-test .taken) (omega (arith, c .before .before .before .before .fetch .ensures, to-ask .ensures .room))
 
 loop-again-4 : tie.Need-loop-again-4 Inv-loop μ-loop
 loop-again-4 c =
-    let l = c .before .before .before .before .before .before .before .before .before .before .loop in
+    let if3 = c .before .before .before .before .before .before .if3 in
+    let to-ask = c .before .before .before .before .before .before .before .to-ask in
+    let if1 = c .before .before .before .before .before .before .before .before .if1 in
+    let loop-test = c .before .before .before .before .before .before .before .before .before .loop-test in
+    let loop = c .before .before .before .before .before .before .before .before .before .before .loop in
+    let l = loop in
     let v = l .inv in
     let n = c .before .before .before .before .fetch in
-    let k = c .before .before .before .before .before .before .before .to-ask .ensures in
+    let k = to-ask .ensures in
     let t = rw (c .enum-told2 .given .1) at (c .before .before .tell .ensures) in
-    let u = used-up (l .block) (l .n) (l .at) (omega (arith, c .before .before .before .before .before .before .before .before .if1 .left)) in
+    let u = used-up (l .block) (l .n) (l .at) (omega (arith, if1 .left)) in
     let m : n .result ≤ 65536 = omega (arith, n .ensures, k .room) in
-    let p = k .lines (omega (arith, c .before .before .before .before .before .before .if3 .left)) in
+    let p = k .lines (omega (arith, if3 .left)) in
     record {
       blockLong = n .kept .0 ∙ v .blockLong;
       lineLong = v .lineLong;
@@ -184,37 +169,41 @@ loop-again-4 c =
       came = m;
       written = λ e. not-both false e refl;
       goes = λ e. not-both false e refl;
-      stops = λ e. over-none (v .goes (c .before .before .before .before .before .before .before .before .before .loop-test .taken)) u (v .used) (v .lineLong) (n .result) (take (n .result) (n .last .0)) (length-take-le (n .result) (n .last .0) (omega (arith, n .kept .0, v .blockLong))) p t;
+      stops = λ e. over-none (v .goes (loop-test .taken)) u (v .used) (v .lineLong) (n .result) (take (n .result) (n .last .0)) (length-take-le (n .result) (n .last .0) (omega (arith, n .kept .0, v .blockLong))) p t;
     }
-
-enum-told-3 : tie.Need-enum-told-3 Inv-loop μ-loop
-enum-told-3 c = search needs
-
-slice-aggregate-take-begun : tie.Need-slice-aggregate-take-begun Inv-loop μ-loop
-slice-aggregate-take-begun c = search needs
-
-slice-aggregate-take-begun-2 : tie.Need-slice-aggregate-take-begun-2 Inv-loop μ-loop
-slice-aggregate-take-begun-2 c = search needs
 
 take-begun-requires : tie.Need-take-begun-requires Inv-loop μ-loop
 take-begun-requires c κs =
-    let v = c .before .before .before .before .before .before .before .before .before .before .before .before .loop .inv in
-    record { waits = omega (arith, v .written (c .before .before .before .before .before .before .before .before .before .before .before .loop-test .taken)); output = v .outLong; begun = v .used; long = v .lineLong }
+    let loop-test = c .before .before .before .before .before .before .before .before .before .before .before .loop-test in
+    let loop = c .before .before .before .before .before .before .before .before .before .before .before .before .loop in
+    let v = loop .inv in
+    record { waits = omega (arith, v .written (loop-test .taken)); output = v .outLong; begun = v .used; long = v .lineLong }
 
 loop-less-5 : tie.Need-loop-less-5 Inv-loop μ-loop
-loop-less-5 c = rw (c .before .before .before .before .before .before .before .before .before .before .before .before .before .before .loop-test .taken) (omega (arith, c .before .before .before .before .before .before .before .before .before .fetch .ensures, c .before .before .before .before .before .before .before .before .before .before .before .before .to-ask .ensures .room))
+loop-less-5 c =
+    let fetch = c .before .before .before .before .before .before .before .before .before .fetch in
+    let to-ask = c .before .before .before .before .before .before .before .before .before .before .before .before .to-ask in
+    let loop-test = c .before .before .before .before .before .before .before .before .before .before .before .before .before .before .loop-test in
+    rw (loop-test .taken) (omega (arith, fetch .ensures, to-ask .ensures .room))
 
 loop-again-5 : tie.Need-loop-again-5 Inv-loop μ-loop
 loop-again-5 c =
-    let l = c .before .before .before .before .before .before .before .before .before .before .before .before .before .before .before .loop in
+    let tell = c .before .before .before .before .before .before .before .tell in
+    let fetch = c .before .before .before .before .before .before .before .before .before .fetch in
+    let if3 = c .before .before .before .before .before .before .before .before .before .before .before .if3 in
+    let to-ask = c .before .before .before .before .before .before .before .before .before .before .before .before .to-ask in
+    let if1 = c .before .before .before .before .before .before .before .before .before .before .before .before .before .if1 in
+    let loop-test = c .before .before .before .before .before .before .before .before .before .before .before .before .before .before .loop-test in
+    let loop = c .before .before .before .before .before .before .before .before .before .before .before .before .before .before .before .loop in
+    let l = loop in
     let v = l .inv in
-    let n = c .before .before .before .before .before .before .before .before .before .fetch in
-    let k = c .before .before .before .before .before .before .before .before .before .before .before .before .to-ask .ensures in
+    let n = fetch in
+    let k = to-ask .ensures in
     let b = c .before .before .take-begun in
-    let t = rw (c .before .before .before .before .before .enum-told3 .given .1) at (c .before .before .before .before .before .before .before .tell .ensures) in
-    let u = used-up (l .block) (l .n) (l .at) (omega (arith, c .before .before .before .before .before .before .before .before .before .before .before .before .before .if1 .left)) in
+    let t = rw (c .before .before .before .before .before .enum-told3 .given .1) at (tell .ensures) in
+    let u = used-up (l .block) (l .n) (l .at) (omega (arith, if1 .left)) in
     let m : n .result ≤ 65536 = omega (arith, n .ensures, k .room) in
-    let p = k .lines (omega (arith, c .before .before .before .before .before .before .before .before .before .before .before .if3 .left)) in
+    let p = k .lines (omega (arith, if3 .left)) in
     record {
       blockLong = n .kept .0 ∙ v .blockLong;
       lineLong = b .kept .1 .0 ∙ v .lineLong;
@@ -224,7 +213,7 @@ loop-again-5 c =
       came = m;
       written = λ e. not-both false e refl;
       goes = λ e. not-both false e refl;
-      stops = λ e. over-last (v .goes (c .before .before .before .before .before .before .before .before .before .before .before .before .before .before .loop-test .taken)) u (v .used) (v .lineLong) (n .result) (take (n .result) (n .last .0)) (length-take-le (n .result) (n .last .0) (omega (arith, n .kept .0, v .blockLong))) p t (b .result) _ (b .ensures);
+      stops = λ e. over-last (v .goes (loop-test .taken)) u (v .used) (v .lineLong) (n .result) (take (n .result) (n .last .0)) (length-take-le (n .result) (n .last .0) (omega (arith, n .kept .0, v .blockLong))) p t (b .result) _ (b .ensures);
     }
 
 array-share-prefix-out-2 : tie.Need-array-share-prefix-out-2 Inv-loop μ-loop
@@ -233,54 +222,48 @@ array-share-prefix-out-2 c = let v = c .before .loop .inv in omega (arith, v .wa
 slice-aggregate-write-out-2 : tie.Need-slice-aggregate-write-out-2 Inv-loop μ-loop
 slice-aggregate-write-out-2 c = let v = c .before .before .loop .inv in sym (length-take-le _ _ (omega (arith, v .waits, v .outLong)))
 
-write-out-requires-2 : tie.Need-write-out-requires-2 Inv-loop μ-loop
-write-out-requires-2 c κs = search needs
-
-returns-2 : tie.Need-returns-2 Inv-loop μ-loop
-returns-2 c = search needs
-
 pub serve-spec : {M : Type 1} → statement M
 serve-spec =
     tie.close
     (tie.spec
     Inv-loop
     μ-loop
-    large-buffer-requires
-    large-buffer-requires-2
-    start-requires
+    (λ c κs. search needs)
+    (λ c κs. search needs)
+    (λ c κs. search needs)
     loop-holds
-    array-share-prefix-block
+    (λ c. search needs)
     slice-aggregate-feed-block
-    slice-aggregate-feed-block-2
-    slice-aggregate-feed-block-3
+    (λ c. search needs)
+    (λ c. search needs)
     feed-block-requires
     array-share-prefix-out
     slice-aggregate-write-out
-    write-out-requires
-    returns
-    emptied-requires
+    (λ c κs. search needs)
+    (λ c. search needs)
+    (λ c κs. search needs)
     loop-less
     loop-again
-    to-ask-requires
+    (λ c κs. search needs)
     loop-less-2
     loop-again-2
-    slice-aggregate-fetch
+    (λ c. search needs)
     fetch-requires
     tell-requires
-    enum-told
+    (λ c. search needs)
     sub-more
     loop-less-3
     loop-again-3
-    enum-told-2
+    (λ c. search needs)
     loop-less-4
     loop-again-4
-    enum-told-3
-    slice-aggregate-take-begun
-    slice-aggregate-take-begun-2
+    (λ c. search needs)
+    (λ c. search needs)
+    (λ c. search needs)
     take-begun-requires
     loop-less-5
     loop-again-5
     array-share-prefix-out-2
     slice-aggregate-write-out-2
-    write-out-requires-2
-    returns-2)
+    (λ c κs. search needs)
+    (λ c. search needs))

@@ -5,11 +5,8 @@ use borrow.Author.Needs.{needs}
 use Rattle.service.proofs.start.Statement.{statement}
 use Rattle.service.proofs.start.Tie as tie
 
-empty-condition-requires : tie.Need-empty-condition-requires
-empty-condition-requires c κs = search needs
-
 returns : tie.Need-returns
 returns c = (stands-start (c .before .args .left) _ (c .empty-condition .ensures) refl, refl, refl)
 
 pub start-spec : {M : Type 1} → statement M
-start-spec = tie.close (tie.spec empty-condition-requires returns)
+start-spec = tie.close (tie.spec (λ c κs. search needs) returns)

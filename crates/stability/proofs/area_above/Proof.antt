@@ -13,23 +13,11 @@ returns c = let a = c .before .args in rw (c .if1 .taken) (nothing-above (a .t) 
 mul-result : tie.Need-mul-result
 mul-result c = let s = c .before .before in let a = s .args in let tu = mul-le-mul (s .pre .0) (s .pre .3) in omega (arith, tu)
 
-mul-result-2 : tie.Need-mul-result-2
-mul-result-2 c = search needs
-
-div-result : tie.Need-div-result
-div-result c = search needs
-
 returns-2 : tie.Need-returns-2
 returns-2 c = let a = c .before .before .args in rw (c .if2 .taken) (all-above (a .t) (a .s) (a .u) (omega arith))
 
 mul-product-over : tie.Need-mul-product-over
 mul-product-over c = let s = c .before .before in let a = s .args in let tu = mul-le-mul (s .pre .0) (s .pre .3) in omega (arith, tu)
-
-mul-product-over-2 : tie.Need-mul-product-over-2
-mul-product-over-2 c = search needs
-
-add-product-over : tie.Need-add-product-over
-add-product-over c = search needs
 
 mul-product-over-3 : tie.Need-mul-product-over-3
 mul-product-over-3 c = let s = c .before .before in let a = s .args in let tu = mul-le-mul (s .pre .0) (s .pre .3) in let w : a .u + a .n ≤ 2 ^ 46 = omega arith in let two : 2 * a .s ≤ 1000 = omega arith in let big = mul-le-mul two w in omega (arith, big)
@@ -37,21 +25,18 @@ mul-product-over-3 c = let s = c .before .before in let a = s .args in let tu = 
 product-over-requires : tie.Need-product-over-requires
 product-over-requires c κs = let s = c .before .before in let a = s .args in let tu = mul-le-mul (s .pre .0) (s .pre .3) in let w : a .u + a .n ≤ 2 ^ 46 = omega arith in let two : 2 * a .s ≤ 1000 = omega arith in let big = mul-le-mul two w in let pos : 0 < 2 * a .s * (a .u + a .n) = mul-pos (omega arith) (omega arith) in omega (arith, big, pos, mul-le-mul-left (a .u + a .n) (s .pre .1))
 
-returns-3 : tie.Need-returns-3
-returns-3 c = search needs
-
 pub area-above-spec : {M : Type 1} → statement M
 area-above-spec =
     tie.close
     (tie.spec
     returns
     mul-result
-    mul-result-2
-    div-result
+    (λ c. search needs)
+    (λ c. search needs)
     returns-2
     mul-product-over
-    mul-product-over-2
-    add-product-over
+    (λ c. search needs)
+    (λ c. search needs)
     mul-product-over-3
     product-over-requires
-    returns-3)
+    (λ c. search needs))

@@ -20,15 +20,6 @@ loop-holds c = (omega arith, area-none (c .args .ds) (c .args .upper), omega ari
 stretch-area-requires : tie.Need-stretch-area-requires Inv-loop μ-loop
 stretch-area-requires c κs = (c .before .before .pre, omega arith)
 
-add-total : tie.Need-add-total Inv-loop μ-loop
-add-total c = search needs
-
-add-k : tie.Need-add-k Inv-loop μ-loop
-add-k c = search needs
-
-loop-less : tie.Need-loop-less Inv-loop μ-loop
-loop-less c = search needs
-
 loop-again : tie.Need-loop-again Inv-loop μ-loop
 loop-again c =
     let l = c .before .before in
@@ -46,8 +37,8 @@ area-to-spec =
     μ-loop
     loop-holds
     stretch-area-requires
-    add-total
-    add-k
-    loop-less
+    (λ c. search needs)
+    (λ c. search needs)
+    (λ c. search needs)
     loop-again
     returns)

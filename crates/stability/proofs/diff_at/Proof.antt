@@ -15,9 +15,6 @@ use borrow.Author.Needs.{needs}
 use Rattle.stability.proofs.diff_at.Statement.{statement}
 use Rattle.stability.proofs.diff_at.Tie as tie
 
-stretch-of-requires : tie.Need-stretch-of-requires
-stretch-of-requires c κs = search needs
-
 angle-at-requires : tie.Need-angle-at-requires
 angle-at-requires c κs = let t = stretch-is (c .before .args .x) (c .before .pre .1) in omega (arith, t .within, c .stretch-of .ensures)
 
@@ -103,7 +100,7 @@ pub diff-at-spec : {M : Type 1} → statement M
 diff-at-spec =
     tie.close
     (tie.spec
-    stretch-of-requires
+    (λ c κs. search needs)
     angle-at-requires
     mul-d
     array-copy-out-d

@@ -23,36 +23,12 @@ abbrev μ-loop : tie.MeasureT-loop
 loop-holds : tie.Need-loop-holds Inv-loop μ-loop
 loop-holds c = (search needs, search needs, below-none _)
 
-mul-r : tie.Need-mul-r Inv-loop μ-loop
-mul-r c = search needs
-
-array-copy-out-r : tie.Need-array-copy-out-r Inv-loop μ-loop
-array-copy-out-r c = search needs
-
-mul-left-over : tie.Need-mul-left-over Inv-loop μ-loop
-mul-left-over c = search needs
-
-array-read-left-over : tie.Need-array-read-left-over Inv-loop μ-loop
-array-read-left-over c = search needs
-
 left-over-requires : tie.Need-left-over-requires Inv-loop μ-loop
 left-over-requires c κs =
     let l = c .before .before in
     let p = l .before .pre in
     let k = l .loop .k in
     rw (toZ-ofZ (sfits-of (c .r .given))) (p .above k (omega arith), p .below k (omega arith), p .heeling k (omega arith))
-
-mul-rest : tie.Need-mul-rest Inv-loop μ-loop
-mul-rest c = search needs
-
-array-set-from-rest : tie.Need-array-set-from-rest Inv-loop μ-loop
-array-set-from-rest c = search needs
-
-add-k : tie.Need-add-k Inv-loop μ-loop
-add-k c = search needs
-
-loop-less : tie.Need-loop-less Inv-loop μ-loop
-loop-less c = search needs
 
 loop-again : tie.Need-loop-again Inv-loop μ-loop
 loop-again c =
@@ -78,14 +54,14 @@ differences-spec =
     Inv-loop
     μ-loop
     loop-holds
-    mul-r
-    array-copy-out-r
-    mul-left-over
-    array-read-left-over
+    (λ c. search needs)
+    (λ c. search needs)
+    (λ c. search needs)
+    (λ c. search needs)
     left-over-requires
-    mul-rest
-    array-set-from-rest
-    add-k
-    loop-less
+    (λ c. search needs)
+    (λ c. search needs)
+    (λ c. search needs)
+    (λ c. search needs)
     loop-again
     returns)

@@ -13,23 +13,14 @@ mul-beyond c = let s = c in let r = s .pre in omega (arith, mul-le-mul (r .width
 mul-beyond-2 : tie.Need-mul-beyond-2
 mul-beyond-2 c = let s = c in let r = s .pre in omega (arith, mul-le-mul (r .width) (r .up₁), mul-le-mul (r .width) (r .down₁))
 
-beyond-requires : tie.Need-beyond-requires
-beyond-requires c κs = search needs
-
 on-line-requires : tie.Need-on-line-requires
 on-line-requires c κs = let s = c .before in let r = s .pre in omega (arith, r .part, mul-le-mul (r .up₁) (r .width), mul-le-mul (r .up₂) (r .width), mul-le-mul (r .down₁) (r .width), mul-le-mul (r .down₂) (r .width))
 
 on-line-requires-2 : tie.Need-on-line-requires-2
 on-line-requires-2 c κs = let s = c .before .before in let r = s .pre in omega (arith, r .part, mul-le-mul (r .up₁) (r .width), mul-le-mul (r .up₂) (r .width), mul-le-mul (r .down₁) (r .width), mul-le-mul (r .down₂) (r .width))
 
-beyond-requires-2 : tie.Need-beyond-requires-2
-beyond-requires-2 c κs = search needs
-
 add-result : tie.Need-add-result
 add-result c = let s = c .before .before .before .before in let r = s .pre in let a = s .args in omega (arith, mul-le-mul (r .width) (r .up₁), c .before .before .before .beyond .ensures, c .beyond2 .ensures, c .before .before .on-line .ensures, line-le (a .h) (a .t) (a .p1) (a .p2) (2 ^ 34) (r .part) (r .up₁) (r .up₂), r .width)
-
-returns : tie.Need-returns
-returns c = search needs
 
 pub ends-above-spec : {M : Type 1} → statement M
 ends-above-spec =
@@ -37,9 +28,9 @@ ends-above-spec =
     (tie.spec
     mul-beyond
     mul-beyond-2
-    beyond-requires
+    (λ c κs. search needs)
     on-line-requires
     on-line-requires-2
-    beyond-requires-2
+    (λ c κs. search needs)
     add-result
-    returns)
+    (λ c. search needs))

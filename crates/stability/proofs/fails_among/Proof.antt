@@ -25,15 +25,6 @@ abbrev μ-loop : tie.MeasureT-loop
 loop-holds : tie.Need-loop-holds Inv-loop μ-loop
 loop-holds c = (omega arith, among-none _ _ _)
 
-mul-d : tie.Need-mul-d Inv-loop μ-loop
-mul-d c = search needs
-
-array-copy-out-d : tie.Need-array-copy-out-d Inv-loop μ-loop
-array-copy-out-d c = search needs
-
-fails-at-requires : tie.Need-fails-at-requires Inv-loop μ-loop
-fails-at-requires c κs = search needs
-
 returns : tie.Need-returns Inv-loop μ-loop
 returns c =
     let l = c .before .before .before .before in
@@ -41,12 +32,6 @@ returns c =
     let k = l .loop .k in
     let e : c .before .fails-at .result ≡ failsAt (a .heel) (a .upper) (a .t3) k = c .before .fails-at .ensures ∙ ap (λ (z : ℤ). ltb (a .heel) (angle k) && leb (angle k) (a .upper) && isBelow z) (toZ-ofZ {w = w64} {z = getD (a .t3) k (pos 0)} (sfits-of (c .before .before .d .given))) in
     among-found (a .heel) (a .upper) (a .t3) k 10 (omega arith) (sym e ∙ c .if1 .taken)
-
-add-k : tie.Need-add-k Inv-loop μ-loop
-add-k c = search needs
-
-loop-less : tie.Need-loop-less Inv-loop μ-loop
-loop-less c = search needs
 
 loop-again : tie.Need-loop-again Inv-loop μ-loop
 loop-again c =
@@ -66,11 +51,11 @@ fails-among-spec =
     Inv-loop
     μ-loop
     loop-holds
-    mul-d
-    array-copy-out-d
-    fails-at-requires
+    (λ c. search needs)
+    (λ c. search needs)
+    (λ c κs. search needs)
     returns
-    add-k
-    loop-less
+    (λ c. search needs)
+    (λ c. search needs)
     loop-again
     returns-2)

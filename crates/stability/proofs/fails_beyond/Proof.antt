@@ -9,20 +9,11 @@ use borrow.Author.Needs.{needs}
 use Rattle.stability.proofs.fails_beyond.Statement.{statement}
 use Rattle.stability.proofs.fails_beyond.Tie as tie
 
-fails-among-requires : tie.Need-fails-among-requires
-fails-among-requires c κs = search needs
-
 returns : tie.Need-returns
 returns c = rw (sym (c .before .fails-among .ensures) ∙ c .if1 .taken) refl
 
 returns-2 : tie.Need-returns-2
 returns-2 c = let a = c .before .before .before .args in rw (sym (c .before .before .fails-among .ensures) ∙ c .before .if1 .left, le-ltb (a .heel) (a .upper) (c .if2 .taken)) refl
-
-diff-at-requires : tie.Need-diff-at-requires
-diff-at-requires c κs = search needs
-
-is-below-requires : tie.Need-is-below-requires
-is-below-requires c κs = search needs
 
 returns-3 : tie.Need-returns-3
 returns-3 c = let a = c .before .before .before .before .before .args in rw (sym (c .before .before .before .before .fails-among .ensures) ∙ c .before .before .before .if1 .left, lt-ltb (a .heel) (a .upper) (c .before .before .if2 .left)) (c .is-below .ensures ∙ ap (λ (z : ℤ). ltZ z (pos 0)) (toZ-ofZ (sfits-of (c .before .diff-at .ok)) ∙ c .before .diff-at .ensures))
@@ -30,4 +21,4 @@ returns-3 c = let a = c .before .before .before .before .before .args in rw (sym
 pub fails-beyond-spec : {M : Type 1} → statement M
 fails-beyond-spec =
     tie.close
-    (tie.spec fails-among-requires returns returns-2 diff-at-requires is-below-requires returns-3)
+    (tie.spec (λ c κs. search needs) returns returns-2 (λ c κs. search needs) (λ c κs. search needs) returns-3)

@@ -8,20 +8,8 @@ use borrow.Author.Needs.{needs}
 use Rattle.stability.proofs.full_area.Statement.{statement}
 use Rattle.stability.proofs.full_area.Tie as tie
 
-above-zero-requires : tie.Need-above-zero-requires
-above-zero-requires c κs = search needs
-
-above-zero-requires-2 : tie.Need-above-zero-requires-2
-above-zero-requires-2 c κs = search needs
-
 add-u : tie.Need-add-u
 add-u c = let s = c .before .before in let p1 = c .before .above-zero .ensures ∙ ap plus (toZ-ofZ (s .fits .d)) in let p2 = c .above-zero2 .ensures ∙ ap plus (toZ-ofZ (s .fits .e)) in let d = s .pre .2 in let e = s .pre .3 in omega arith
-
-below-zero-requires : tie.Need-below-zero-requires
-below-zero-requires c κs = search needs
-
-below-zero-requires-2 : tie.Need-below-zero-requires-2
-below-zero-requires-2 c κs = search needs
 
 add-n : tie.Need-add-n
 add-n c =
@@ -60,11 +48,11 @@ pub full-area-spec : {M : Type 1} → statement M
 full-area-spec =
     tie.close
     (tie.spec
-    above-zero-requires
-    above-zero-requires-2
+    (λ c κs. search needs)
+    (λ c κs. search needs)
     add-u
-    below-zero-requires
-    below-zero-requires-2
+    (λ c κs. search needs)
+    (λ c κs. search needs)
     add-n
     whole-area-requires
     returns)

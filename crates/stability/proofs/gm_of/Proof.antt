@@ -9,21 +9,6 @@ use borrow.Author.Needs.{needs}
 use Rattle.stability.proofs.gm_of.Statement.{statement}
 use Rattle.stability.proofs.gm_of.Tie as tie
 
-reach-of-requires : tie.Need-reach-of-requires
-reach-of-requires c κs = search needs
-
-cast-arm-over : tie.Need-cast-arm-over
-cast-arm-over c = search needs
-
-cast-arm-over-2 : tie.Need-cast-arm-over-2
-cast-arm-over-2 c = search needs
-
-arm-over-requires : tie.Need-arm-over-requires
-arm-over-requires c κs = search needs
-
-mul-rounded-down : tie.Need-mul-rounded-down
-mul-rounded-down c = search needs
-
 mul-rounded-down-2 : tie.Need-mul-rounded-down-2
 mul-rounded-down-2 c = let r = c .before .before .before .before .before .reach-of .ensures in omega (arith, mul-le-mul (r .low) (r .small))
 
@@ -32,17 +17,19 @@ rounded-down-requires c κs = let r = c .before .before .before .before .before 
 
 returns : tie.Need-returns
 unfolding gm
-returns c = let r = c .before .before .before .before .before .before .reach-of .ensures in toZ-ofZ (sfits-of (c .rounded-down .ok)) ∙ c .rounded-down .ensures ∙ rw (c .before .before .before .arm-over .ensures .0, r .span, r .past, r .fluid) refl
+returns c =
+    let reach-of = c .before .before .before .before .before .before .reach-of in
+    let r = reach-of .ensures in toZ-ofZ (sfits-of (c .rounded-down .ok)) ∙ c .rounded-down .ensures ∙ rw (c .before .before .before .arm-over .ensures .0, r .span, r .past, r .fluid) refl
 
 pub gm-of-spec : {M : Type 1} → statement M
 gm-of-spec =
     tie.close
     (tie.spec
-    reach-of-requires
-    cast-arm-over
-    cast-arm-over-2
-    arm-over-requires
-    mul-rounded-down
+    (λ c κs. search needs)
+    (λ c. search needs)
+    (λ c. search needs)
+    (λ c κs. search needs)
+    (λ c. search needs)
     mul-rounded-down-2
     rounded-down-requires
     returns)

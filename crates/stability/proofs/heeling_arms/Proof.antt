@@ -23,18 +23,6 @@ loop-holds c = (c .pre, search needs, search needs, below-none _)
 heeling-at-requires : tie.Need-heeling-at-requires Inv-loop μ-loop
 heeling-at-requires c κs = (c .before .before .pre, omega arith)
 
-mul-arms : tie.Need-mul-arms Inv-loop μ-loop
-mul-arms c = search needs
-
-array-write-arms : tie.Need-array-write-arms Inv-loop μ-loop
-array-write-arms c = search needs
-
-add-k : tie.Need-add-k Inv-loop μ-loop
-add-k c = search needs
-
-loop-less : tie.Need-loop-less Inv-loop μ-loop
-loop-less c = search needs
-
 loop-again : tie.Need-loop-again Inv-loop μ-loop
 loop-again c =
     let l = c .before .before in
@@ -59,9 +47,9 @@ heeling-arms-spec =
     μ-loop
     loop-holds
     heeling-at-requires
-    mul-arms
-    array-write-arms
-    add-k
-    loop-less
+    (λ c. search needs)
+    (λ c. search needs)
+    (λ c. search needs)
+    (λ c. search needs)
     loop-again
     returns)

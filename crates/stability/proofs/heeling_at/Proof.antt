@@ -10,12 +10,6 @@ use borrow.Author.Needs.{needs}
 use Rattle.stability.proofs.heeling_at.Statement.{statement}
 use Rattle.stability.proofs.heeling_at.Tie as tie
 
-mul-heels : tie.Need-mul-heels
-mul-heels c = search needs
-
-angle-at-requires : tie.Need-angle-at-requires
-angle-at-requires c κs = search needs
-
 sub-heels : tie.Need-sub-heels
 sub-heels c =
     let s = c .before .before .before in
@@ -33,12 +27,6 @@ mul-heels-2 c =
     let w : 20000 - c .angle-at .result ≤ 20000 = omega arith in
     let d = load-bounds (s .args .b .load) (s .pre .0 .load) .d in
     omega (arith, mul-le-mul (s .pre .0 .weight) w)
-
-cast-heels : tie.Need-cast-heels
-cast-heels c = search needs
-
-mul-heels-3 : tie.Need-mul-heels-3
-mul-heels-3 c = search needs
 
 heels-requires : tie.Need-heels-requires
 heels-requires c κs =
@@ -64,11 +52,11 @@ pub heeling-at-spec : {M : Type 1} → statement M
 heeling-at-spec =
     tie.close
     (tie.spec
-    mul-heels
-    angle-at-requires
+    (λ c. search needs)
+    (λ c κs. search needs)
     sub-heels
     mul-heels-2
-    cast-heels
-    mul-heels-3
+    (λ c. search needs)
+    (λ c. search needs)
     heels-requires
     returns)

@@ -9,23 +9,8 @@ use borrow.Author.Needs.{needs}
 use Rattle.stability.proofs.judge.Statement.{statement}
 use Rattle.stability.proofs.judge.Tie as tie
 
-cast-flood : tie.Need-cast-flood
-cast-flood c = search needs
-
-righting-arms-requires : tie.Need-righting-arms-requires
-righting-arms-requires c κs = search needs
-
-heeling-arms-requires : tie.Need-heeling-arms-requires
-heeling-arms-requires c κs = search needs
-
 differences-requires : tie.Need-differences-requires
 differences-requires c κs = rw (c .before .righting-arms .ensures, c .heeling-arms .ensures) (arms-small (c .before .before .before .args .b) (c .before .before .before .pre))
-
-heel-limit-requires : tie.Need-heel-limit-requires
-heel-limit-requires c κs = search needs
-
-gm-of-requires : tie.Need-gm-of-requires
-gm-of-requires c κs = search needs
 
 verdict-from-requires : tie.Need-verdict-from-requires
 verdict-from-requires c κs =
@@ -44,11 +29,11 @@ pub judge-spec : {M : Type 1} → statement M
 judge-spec =
     tie.close
     (tie.spec
-    cast-flood
-    righting-arms-requires
-    heeling-arms-requires
+    (λ c. search needs)
+    (λ c κs. search needs)
+    (λ c κs. search needs)
     differences-requires
-    heel-limit-requires
-    gm-of-requires
+    (λ c κs. search needs)
+    (λ c κs. search needs)
     verdict-from-requires
     returns)

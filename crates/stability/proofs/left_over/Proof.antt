@@ -9,12 +9,6 @@ use borrow.Author.Needs.{needs}
 use Rattle.stability.proofs.left_over.Statement.{statement}
 use Rattle.stability.proofs.left_over.Tie as tie
 
-above-zero-requires : tie.Need-above-zero-requires
-above-zero-requires c κs = search needs
-
-below-zero-requires : tie.Need-below-zero-requires
-below-zero-requires c κs = search needs
-
 add-difference : tie.Need-add-difference
 add-difference c = (let s = c .before .before in omega (arith, c .before .above-zero .ensures ∙ ap plus (toZ-ofZ (s .fits .righting)), c .below-zero .ensures ∙ ap minus (toZ-ofZ (s .fits .righting))))
 
@@ -27,4 +21,4 @@ returns c = let s = c .before .before .before in cc (toZ-ofZ (sfits-of (c .diffe
 pub left-over-spec : {M : Type 1} → statement M
 left-over-spec =
     tie.close
-    (tie.spec above-zero-requires below-zero-requires add-difference difference-requires returns)
+    (tie.spec (λ c κs. search needs) (λ c κs. search needs) add-difference difference-requires returns)

@@ -10,18 +10,6 @@ use borrow.Author.Needs.{needs}
 use Rattle.stability.proofs.part_area.Statement.{statement}
 use Rattle.stability.proofs.part_area.Tie as tie
 
-above-zero-requires : tie.Need-above-zero-requires
-above-zero-requires c κs = search needs
-
-below-zero-requires : tie.Need-below-zero-requires
-below-zero-requires c κs = search needs
-
-above-zero-requires-2 : tie.Need-above-zero-requires-2
-above-zero-requires-2 c κs = search needs
-
-below-zero-requires-2 : tie.Need-below-zero-requires-2
-below-zero-requires-2 c κs = search needs
-
 ends-above-requires : tie.Need-ends-above-requires
 ends-above-requires c κs =
     let s = c .before .before .before .before in
@@ -63,8 +51,9 @@ area-above-requires c κs =
 
 returns : tie.Need-returns
 returns c =
+    let above-zero = c .before .before .before .before .before .before .above-zero in
     let s = c .before .before .before .before .before .before .before in
-    let p1 = c .before .before .before .before .before .before .above-zero .ensures ∙ ap plus (toZ-ofZ (s .fits .d)) in
+    let p1 = above-zero .ensures ∙ ap plus (toZ-ofZ (s .fits .d)) in
     let m1 = c .before .before .before .before .before .below-zero .ensures ∙ ap minus (toZ-ofZ (s .fits .d)) in
     let p2 = c .before .before .before .before .above-zero2 .ensures ∙ ap plus (toZ-ofZ (s .fits .e)) in
     let m2 = c .before .before .before .below-zero2 .ensures ∙ ap minus (toZ-ofZ (s .fits .e)) in
@@ -74,10 +63,10 @@ pub part-area-spec : {M : Type 1} → statement M
 part-area-spec =
     tie.close
     (tie.spec
-    above-zero-requires
-    below-zero-requires
-    above-zero-requires-2
-    below-zero-requires-2
+    (λ c κs. search needs)
+    (λ c κs. search needs)
+    (λ c κs. search needs)
+    (λ c κs. search needs)
     ends-above-requires
     ends-above-requires-2
     area-above-requires

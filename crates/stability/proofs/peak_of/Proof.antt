@@ -22,24 +22,6 @@ abbrev μ-loop : tie.MeasureT-loop
 loop-holds : tie.Need-loop-holds Inv-loop μ-loop
 loop-holds c = (search needs, omega arith, peak-start _)
 
-mul-a : tie.Need-mul-a Inv-loop μ-loop
-mul-a c = search needs
-
-array-copy-out-a : tie.Need-array-copy-out-a Inv-loop μ-loop
-array-copy-out-a c = search needs
-
-mul-b : tie.Need-mul-b Inv-loop μ-loop
-mul-b c = search needs
-
-array-copy-out-b : tie.Need-array-copy-out-b Inv-loop μ-loop
-array-copy-out-b c = search needs
-
-add-i : tie.Need-add-i Inv-loop μ-loop
-add-i c = search needs
-
-loop-less : tie.Need-loop-less Inv-loop μ-loop
-loop-less c = search needs
-
 loop-again : tie.Need-loop-again Inv-loop μ-loop
 loop-again c =
     let l = c .before .before .before .before in
@@ -67,11 +49,11 @@ peak-of-spec =
     Inv-loop
     μ-loop
     loop-holds
-    mul-a
-    array-copy-out-a
-    mul-b
-    array-copy-out-b
-    add-i
-    loop-less
+    (λ c. search needs)
+    (λ c. search needs)
+    (λ c. search needs)
+    (λ c. search needs)
+    (λ c. search needs)
+    (λ c. search needs)
     loop-again
     returns)

@@ -26,18 +26,6 @@ loop-holds c = (c .pre, search needs, search needs, below-none _)
 righting-at-requires : tie.Need-righting-at-requires Inv-loop μ-loop
 righting-at-requires c κs = (c .before .before .pre, omega arith)
 
-mul-arms : tie.Need-mul-arms Inv-loop μ-loop
-mul-arms c = search needs
-
-array-set-from-arms : tie.Need-array-set-from-arms Inv-loop μ-loop
-array-set-from-arms c = search needs
-
-add-k : tie.Need-add-k Inv-loop μ-loop
-add-k c = search needs
-
-loop-less : tie.Need-loop-less Inv-loop μ-loop
-loop-less c = search needs
-
 loop-again : tie.Need-loop-again Inv-loop μ-loop
 loop-again c =
     let l = c .before .before in
@@ -62,9 +50,9 @@ righting-arms-spec =
     μ-loop
     loop-holds
     righting-at-requires
-    mul-arms
-    array-set-from-arms
-    add-k
-    loop-less
+    (λ c. search needs)
+    (λ c. search needs)
+    (λ c. search needs)
+    (λ c. search needs)
     loop-again
     returns)

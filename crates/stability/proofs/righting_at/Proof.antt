@@ -15,27 +15,6 @@ use borrow.Author.Needs.{needs}
 use Rattle.stability.proofs.righting_at.Statement.{statement}
 use Rattle.stability.proofs.righting_at.Tie as tie
 
-reach-of-requires : tie.Need-reach-of-requires
-reach-of-requires c κs = search needs
-
-mul-arm-over : tie.Need-mul-arm-over
-mul-arm-over c = search needs
-
-array-read-arm-over : tie.Need-array-read-arm-over
-array-read-arm-over c = search needs
-
-cast-arm-over : tie.Need-cast-arm-over
-cast-arm-over c = search needs
-
-mul-arm-over-2 : tie.Need-mul-arm-over-2
-mul-arm-over-2 c = search needs
-
-array-read-arm-over-2 : tie.Need-array-read-arm-over-2
-array-read-arm-over-2 c = search needs
-
-cast-arm-over-2 : tie.Need-cast-arm-over-2
-cast-arm-over-2 c = search needs
-
 arm-over-requires : tie.Need-arm-over-requires
 arm-over-requires c κs =
     let s = c .before .before .before .before .before in
@@ -44,40 +23,37 @@ arm-over-requires c κs =
     let r = c .before .before .reach-of .ensures in
     (r .within, r .small, omega (arith, value-le (q .low) (j .low) (j .tenLow) (s .args .k) (s .pre .1)), omega (arith, value-le (q .high) (j .high) (j .tenHigh) (s .args .k) (s .pre .1)))
 
-rights-requires : tie.Need-rights-requires
-rights-requires c κs = search needs
-
-sine-at-requires : tie.Need-sine-at-requires
-sine-at-requires c κs = search needs
-
 mul-divide-up : tie.Need-mul-divide-up
 mul-divide-up c =
+    let reach-of = c .before .before .before .before .before .before .reach-of in
     let s = c .before .before .before .before .before .before .before .before .before in
     let j = s .pre .0 in
     let q = s .args .b in
     let k = s .args .k in
-    let r = c .before .before .before .before .before .before .reach-of .ensures in
+    let r = reach-of .ensures in
     let si : c .before .sine-at .result ≤ 642788 = omega (arith, c .before .sine-at .ensures, sine-le k (s .pre .1)) in
     omega (arith, mul-le-mul (r .low) si)
 
 divide-up-requires : tie.Need-divide-up-requires
 divide-up-requires c κs =
+    let reach-of = c .before .before .before .before .before .before .reach-of in
     let s = c .before .before .before .before .before .before .before .before .before in
     let j = s .pre .0 in
     let q = s .args .b in
     let k = s .args .k in
-    let r = c .before .before .before .before .before .before .reach-of .ensures in
+    let r = reach-of .ensures in
     let si : c .before .sine-at .result ≤ 642788 = omega (arith, c .before .sine-at .ensures, sine-le k (s .pre .1)) in
     omega (arith, mul-le-mul (r .low) si)
 
 difference-requires : tie.Need-difference-requires
 unfolding knArm kgArm
 difference-requires c κs =
+    let reach-of = c .before .before .before .before .before .before .before .reach-of in
     let s = c .before .before .before .before .before .before .before .before .before .before in
     let j = s .pre .0 in
     let q = s .args .b in
     let k = s .args .k in
-    let r = c .before .before .before .before .before .before .before .reach-of .ensures in
+    let r = reach-of .ensures in
     let kn : c .before .before .before .rights .result ≡ knArm q k = c .before .before .before .rights .ensures ∙ rw (c .before .before .before .before .arm-over .ensures .0, r .span, r .past) refl in
     let kg : c .divide-up .result ≡ kgArm q k = rw (c .divide-up .ensures, r .fluid, c .before .before .sine-at .ensures) refl in
     omega (arith, kn-le q j k (s .pre .1), kg-le q j k (s .pre .1))
@@ -85,11 +61,12 @@ difference-requires c κs =
 returns : tie.Need-returns
 unfolding knArm kgArm rightingArm
 returns c =
+    let reach-of = c .before .before .before .before .before .before .before .before .reach-of in
     let s = c .before .before .before .before .before .before .before .before .before .before .before in
     let j = s .pre .0 in
     let q = s .args .b in
     let k = s .args .k in
-    let r = c .before .before .before .before .before .before .before .before .reach-of .ensures in
+    let r = reach-of .ensures in
     let kn : c .before .before .before .before .rights .result ≡ knArm q k = c .before .before .before .before .rights .ensures ∙ rw (c .before .before .before .before .before .arm-over .ensures .0, r .span, r .past) refl in
     let kg : c .before .divide-up .result ≡ kgArm q k = rw (c .before .divide-up .ensures, r .fluid, c .before .before .before .sine-at .ensures) refl in
     let e = toZ-ofZ (sfits-of (c .difference .ok)) ∙ c .difference .ensures ∙ ap₂ subℕ kn kg in
@@ -100,16 +77,16 @@ pub righting-at-spec : {M : Type 1} → statement M
 righting-at-spec =
     tie.close
     (tie.spec
-    reach-of-requires
-    mul-arm-over
-    array-read-arm-over
-    cast-arm-over
-    mul-arm-over-2
-    array-read-arm-over-2
-    cast-arm-over-2
+    (λ c κs. search needs)
+    (λ c. search needs)
+    (λ c. search needs)
+    (λ c. search needs)
+    (λ c. search needs)
+    (λ c. search needs)
+    (λ c. search needs)
     arm-over-requires
-    rights-requires
-    sine-at-requires
+    (λ c κs. search needs)
+    (λ c κs. search needs)
     mul-divide-up
     divide-up-requires
     difference-requires

@@ -16,32 +16,8 @@ use borrow.Author.Needs.{needs}
 use Rattle.stability.proofs.stretch_area.Statement.{statement}
 use Rattle.stability.proofs.stretch_area.Tie as tie
 
-angle-at-requires : tie.Need-angle-at-requires
-angle-at-requires c κs = search needs
-
 returns : tie.Need-returns
 returns c = let a = c .before .before .args in let h : a .upper ≤ angle (a .k) = omega (arith, c .before .angle-at .ensures, c .if1 .taken) in (rw (counted-none (a .upper) (a .k) h) (nothing-counted _ _ _), omega arith)
-
-add-angle-at : tie.Need-add-angle-at
-add-angle-at c = search needs
-
-angle-at-requires-2 : tie.Need-angle-at-requires-2
-angle-at-requires-2 c κs = search needs
-
-mul-d : tie.Need-mul-d
-mul-d c = search needs
-
-array-copy-out-d : tie.Need-array-copy-out-d
-array-copy-out-d c = search needs
-
-add-e : tie.Need-add-e
-add-e c = search needs
-
-mul-e : tie.Need-mul-e
-mul-e c = search needs
-
-array-copy-out-e : tie.Need-array-copy-out-e
-array-copy-out-e c = search needs
 
 sub-full-area : tie.Need-sub-full-area
 sub-full-area c =
@@ -67,12 +43,13 @@ full-area-requires c κs =
 
 returns-2 : tie.Need-returns-2
 returns-2 c =
+    let angle-at = c .before .before .before .before .before .before .angle-at in
     let s = c .before .before .before .before .before .before .before in
     let k = s .args .k in
     let u = s .args .upper in
     let ds = s .args .t1 in
     let z = c .before .before .before .before .angle-at2 .ensures ∙ ap angle (add-one k) in
-    let w = width-between k (c .before .before .before .before .before .before .angle-at .ensures) (c .before .before .before .before .angle-at2 .ensures) in
+    let w = width-between k (angle-at .ensures) (c .before .before .before .before .angle-at2 .ensures) in
     let x = toZ-ofZ {w = w64} {z = getD ds k (pos 0)} (sfits-of (c .before .before .before .d .given)) in
     let y = toZ-ofZ {w = w64} {z = getD ds (k + 1) (pos 0)} (sfits-of (c .before .before .e .given)) in
     let bx = end-bounds ds k (s .pre .0) (omega (arith, s .pre .1)) in
@@ -90,9 +67,6 @@ sub-part-area c =
     let w = width-between k (c .before .before .before .before .before .angle-at .ensures) (c .before .before .before .angle-at2 .ensures) in
     omega (arith, angle-rises k (s .pre .1))
 
-sub-part-area-2 : tie.Need-sub-part-area-2
-sub-part-area-2 c = search needs
-
 part-area-requires : tie.Need-part-area-requires
 part-area-requires c κs =
     let s = c .before .before .before .before .before .before in
@@ -108,19 +82,20 @@ part-area-requires c κs =
 
 returns-3 : tie.Need-returns-3
 returns-3 c =
+    let angle-at = c .before .before .before .before .before .before .angle-at in
     let s = c .before .before .before .before .before .before .before in
     let k = s .args .k in
     let u = s .args .upper in
     let ds = s .args .t1 in
-    let a = c .before .before .before .before .before .before .angle-at .ensures in
+    let a = angle-at .ensures in
     let z = c .before .before .before .before .angle-at2 .ensures ∙ ap angle (add-one k) in
-    let w = width-between k (c .before .before .before .before .before .before .angle-at .ensures) (c .before .before .before .before .angle-at2 .ensures) in
+    let w = width-between k (angle-at .ensures) (c .before .before .before .before .angle-at2 .ensures) in
     let x = toZ-ofZ {w = w64} {z = getD ds k (pos 0)} (sfits-of (c .before .before .before .d .given)) in
     let y = toZ-ofZ {w = w64} {z = getD ds (k + 1) (pos 0)} (sfits-of (c .before .before .e .given)) in
     let bx = end-bounds ds k (s .pre .0) (omega (arith, s .pre .1)) in
     let by = end-bounds ds (k + 1) (s .pre .0) (omega (arith, s .pre .1)) in
     let h : u < angle (suc k) = omega (arith, c .before .if2 .left) in
-    let v : u - c .before .before .before .before .before .before .angle-at .result ≡ u - angle k = ap (λ n. u - n) a in
+    let v : u - angle-at .result ≡ u - angle k = ap (λ n. u - n) a in
     let e : c .part-area .result ≡ partArea (width k) (u - angle k) (getD ds k (pos 0)) (getD ds (k + 1) (pos 0)) = c .part-area .ensures ∙ rw (x, y, w, v) refl in
     (e ∙ rw (add-one k, counted-part u k h) refl, omega (arith, part-le (width k) (u - angle k) (getD ds k (pos 0)) (getD ds (k + 1) (pos 0)) (omega arith) (width-some k (s .pre .1)) (width-le k (s .pre .1)) bx by))
 
@@ -128,19 +103,19 @@ pub stretch-area-spec : {M : Type 1} → statement M
 stretch-area-spec =
     tie.close
     (tie.spec
-    angle-at-requires
+    (λ c κs. search needs)
     returns
-    add-angle-at
-    angle-at-requires-2
-    mul-d
-    array-copy-out-d
-    add-e
-    mul-e
-    array-copy-out-e
+    (λ c. search needs)
+    (λ c κs. search needs)
+    (λ c. search needs)
+    (λ c. search needs)
+    (λ c. search needs)
+    (λ c. search needs)
+    (λ c. search needs)
     sub-full-area
     full-area-requires
     returns-2
     sub-part-area
-    sub-part-area-2
+    (λ c. search needs)
     part-area-requires
     returns-3)

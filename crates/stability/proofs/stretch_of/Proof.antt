@@ -14,20 +14,8 @@ Inv-loop x n₀ n = (n ≤ 8) × (anglesBelow n x ≡ stretchOf x)
 abbrev μ-loop : tie.MeasureT-loop
 μ-loop x n₀ n = n
 
-loop-holds : tie.Need-loop-holds Inv-loop μ-loop
-loop-holds c = search needs
-
-angle-at-requires : tie.Need-angle-at-requires Inv-loop μ-loop
-angle-at-requires c κs = search needs
-
 returns : tie.Need-returns Inv-loop μ-loop
 returns c = let l = c .before .before .before in below-found (l .loop .n) (l .before .args .x) (omega arith) (omega (arith, c .before .angle-at .ensures, c .if1 .taken)) ∙ l .loop .inv .1
-
-sub-n : tie.Need-sub-n Inv-loop μ-loop
-sub-n c = search needs
-
-loop-less : tie.Need-loop-less Inv-loop μ-loop
-loop-less c = search needs
 
 loop-again : tie.Need-loop-again Inv-loop μ-loop
 loop-again c = let l = c .before .before .before in (omega arith, sym (below-next (l .loop .n) (l .before .args .x) (omega arith) (omega (arith, c .before .angle-at .ensures, c .if1 .left))) ∙ l .loop .inv .1)
@@ -41,10 +29,10 @@ stretch-of-spec =
     (tie.spec
     Inv-loop
     μ-loop
-    loop-holds
-    angle-at-requires
+    (λ c. search needs)
+    (λ c κs. search needs)
     returns
-    sub-n
-    loop-less
+    (λ c. search needs)
+    (λ c. search needs)
     loop-again
     returns-2)

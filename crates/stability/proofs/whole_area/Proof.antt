@@ -15,19 +15,7 @@ mul-result c = let s = c .before in let hu = mul-le-mul (s .pre .0) (s .pre .1) 
 mul-result-2 : tie.Need-mul-result-2
 mul-result-2 c = let s = c .before in let hu = mul-le-mul (s .pre .0) (s .pre .1) in omega (arith, hu, mul-le-mul hu (s .pre .1))
 
-add-result : tie.Need-add-result
-add-result c = search needs
-
-mul-result-3 : tie.Need-mul-result-3
-mul-result-3 c = search needs
-
-div-result : tie.Need-div-result
-div-result c = search needs
-
-returns-2 : tie.Need-returns-2
-returns-2 c = search needs
-
 pub whole-area-spec : {M : Type 1} → statement M
 whole-area-spec =
     tie.close
-    (tie.spec returns mul-result mul-result-2 add-result mul-result-3 div-result returns-2)
+    (tie.spec returns mul-result mul-result-2 (λ c. search needs) (λ c. search needs) (λ c. search needs) (λ c. search needs))

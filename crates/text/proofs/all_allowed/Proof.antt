@@ -7,9 +7,6 @@ use Rattle.text.proofs.Scans.{stands, asked-allowed, prefix-short, pref
 use Rattle.text.proofs.all_allowed.Statement.{statement}
 use Rattle.text.proofs.all_allowed.Tie as tie
 
-scan-requires : tie.Need-scan-requires
-scan-requires c κs = search needs
-
 returns : tie.Need-returns
 returns c =
     let s = c .before .before .before .args .s .now in
@@ -23,4 +20,4 @@ returns-2 c =
     ap tested (sym (prefix-whole allowed s (omega arith)))
 
 pub all-allowed-spec : {M : Type 1} → statement M
-all-allowed-spec = tie.close (tie.spec scan-requires returns returns-2)
+all-allowed-spec = tie.close (tie.spec (λ c κs. search needs) returns returns-2)

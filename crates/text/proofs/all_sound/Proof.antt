@@ -17,18 +17,6 @@ Inv-loop s i₀ i = (i ≤ length s) × (sound (drop i s) ≡ sound s)
 abbrev μ-loop : tie.MeasureT-loop
 μ-loop s i₀ i = length s - i
 
-loop-holds : tie.Need-loop-holds Inv-loop μ-loop
-loop-holds c = search needs
-
-scan-requires : tie.Need-scan-requires Inv-loop μ-loop
-scan-requires c κs = search needs
-
-run-of-requires : tie.Need-run-of-requires Inv-loop μ-loop
-run-of-requires c κs = search needs
-
-is-sound-requires : tie.Need-is-sound-requires Inv-loop μ-loop
-is-sound-requires c κs = search needs
-
 returns : tie.Need-returns Inv-loop μ-loop
 returns c =
     let k = c .before .before .before in
@@ -37,9 +25,6 @@ returns c =
     let i = h .loop .i in
     let e = run-bad s i _ _ (stands asked-runs s i (k .scan .ensures .0)) (c .before .before .run-of .ensures) in
     ap tested (sym (e (sym (c .before .is-sound .ensures) ∙ not-true _ (c .if1 .taken))) ∙ h .loop .inv .1)
-
-scan-requires-2 : tie.Need-scan-requires-2 Inv-loop μ-loop
-scan-requires-2 c κs = search needs
 
 loop-less : tie.Need-loop-less Inv-loop μ-loop
 loop-less c =
@@ -73,12 +58,12 @@ all-sound-spec =
     (tie.spec
     Inv-loop
     μ-loop
-    loop-holds
-    scan-requires
-    run-of-requires
-    is-sound-requires
+    (λ c. search needs)
+    (λ c κs. search needs)
+    (λ c κs. search needs)
+    (λ c κs. search needs)
     returns
-    scan-requires-2
+    (λ c κs. search needs)
     loop-less
     loop-again
     returns-2)

@@ -8,41 +8,32 @@ use Rattle.text.specs.Token.{opening, closing, space, inRun}
 use Rattle.text.proofs.class_of.Statement.{statement}
 use Rattle.text.proofs.class_of.Tie as tie
 
-is-within-requires : tie.Need-is-within-requires
-is-within-requires c κs = search needs
-
-is-digit-requires : tie.Need-is-digit-requires
-is-digit-requires c κs = search needs
-
-either-requires : tie.Need-either-requires
-either-requires c κs = search needs
-
 returns : tie.Need-returns
 returns c =
     let b = c .before .before .before .before .args .b in
     let e : inRun b ≡ true = cc in
     rw e
 
-either-requires-2 : tie.Need-either-requires-2
-either-requires-2 c κs = search needs
-
 returns-2 : tie.Need-returns-2
 returns-2 c =
-    let b = c .before .before .before .before .before .before .args .b in
+    let args = c .before .before .before .before .before .before .args in
+    let b = args .b in
     let e : inRun b ≡ false = cc in
     let f : (eqb b opening || eqb b closing) ≡ true = cc in
     rw (e, f)
 
 returns-3 : tie.Need-returns-3
 returns-3 c =
-    let b = c .before .before .before .before .before .before .before .args .b in
+    let args = c .before .before .before .before .before .before .before .args in
+    let b = args .b in
     let e : inRun b ≡ false = cc in
     let f : (eqb b opening || eqb b closing) ≡ false = cc in
     rw (e, f, eq-eqb b space (c .if3 .taken))
 
 returns-4 : tie.Need-returns-4
 returns-4 c =
-    let b = c .before .before .before .before .before .before .before .args .b in
+    let args = c .before .before .before .before .before .before .before .args in
+    let b = args .b in
     let e : inRun b ≡ false = cc in
     let f : (eqb b opening || eqb b closing) ≡ false = cc in
     rw (e, f, ne-eqb b space (c .if3 .left))
@@ -51,11 +42,11 @@ pub class-of-spec : {M : Type 1} → statement M
 class-of-spec =
     tie.close
     (tie.spec
-    is-within-requires
-    is-digit-requires
-    either-requires
+    (λ c κs. search needs)
+    (λ c κs. search needs)
+    (λ c κs. search needs)
     returns
-    either-requires-2
+    (λ c κs. search needs)
     returns-2
     returns-3
     returns-4)

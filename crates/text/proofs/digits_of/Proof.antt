@@ -17,15 +17,6 @@ Inv-loop run v₀ i₀ v i = (i ≤ length run) × (v ≤ 999999999) × (digitsF
 abbrev μ-loop : tie.MeasureT-loop
 μ-loop run v₀ i₀ v i = length run - i
 
-loop-holds : tie.Need-loop-holds Inv-loop μ-loop
-loop-holds c = search needs
-
-shared-slice-read-b : tie.Need-shared-slice-read-b Inv-loop μ-loop
-shared-slice-read-b c = search needs
-
-is-digit-requires : tie.Need-is-digit-requires Inv-loop μ-loop
-is-digit-requires c κs = search needs
-
 returns : tie.Need-returns Inv-loop μ-loop
 returns c =
     let h = c .before .before .before .before in
@@ -33,9 +24,6 @@ returns c =
     let i = h .loop .i in
     let v = h .loop .v in
     sym (digits-bad s i (search needs) v (sym (c .before .is-digit .ensures) ∙ not-true _ (c .if1 .taken))) ∙ h .loop .inv .2
-
-mul-w : tie.Need-mul-w Inv-loop μ-loop
-mul-w c = search needs
 
 sub-w : tie.Need-sub-w Inv-loop μ-loop
 sub-w c = let d = within-true 48 57 _ (sym (c .before .is-digit .ensures) ∙ not-false _ (c .if1 .left)) in search needs
@@ -54,12 +42,6 @@ returns-2 c =
     let v = h .loop .v in
     sym (digits-large s i (search needs) v (sym (c .before .before .is-digit .ensures) ∙ not-false _ (c .before .if1 .left)) (search needs)) ∙ h .loop .inv .2
 
-add-i : tie.Need-add-i Inv-loop μ-loop
-add-i c = search needs
-
-loop-less : tie.Need-loop-less Inv-loop μ-loop
-loop-less c = search needs
-
 loop-again : tie.Need-loop-again Inv-loop μ-loop
 loop-again c =
     let h = c .before .before .before .before .before in
@@ -67,9 +49,6 @@ loop-again c =
     let i = h .loop .i in
     let v = h .loop .v in
     (omega arith, omega arith, sym (digits-on s i (search needs) v (sym (c .before .before .is-digit .ensures) ∙ not-false _ (c .before .if1 .left))) ∙ h .loop .inv .2)
-
-cast-t13 : tie.Need-cast-t13 Inv-loop μ-loop
-cast-t13 c = search needs
 
 returns-3 : tie.Need-returns-3 Inv-loop μ-loop
 returns-3 c =
@@ -83,17 +62,17 @@ digits-of-spec =
     (tie.spec
     Inv-loop
     μ-loop
-    loop-holds
-    shared-slice-read-b
-    is-digit-requires
+    (λ c. search needs)
+    (λ c. search needs)
+    (λ c κs. search needs)
     returns
-    mul-w
+    (λ c. search needs)
     sub-w
     cast-w
     add-w
     returns-2
-    add-i
-    loop-less
+    (λ c. search needs)
+    (λ c. search needs)
     loop-again
-    cast-t13
+    (λ c. search needs)
     returns-3)

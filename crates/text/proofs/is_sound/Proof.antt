@@ -9,23 +9,8 @@ use Rattle.text.proofs.is_sound.Tie as tie
 returns : tie.Need-returns
 returns c = sym (sound-none (c .before .before .args .run .now) (c .if1 .taken))
 
-shared-slice-read-is-digit : tie.Need-shared-slice-read-is-digit
-shared-slice-read-is-digit c = search needs
-
-is-digit-requires : tie.Need-is-digit-requires
-is-digit-requires c κs = search needs
-
 returns-2 : tie.Need-returns-2
 returns-2 c = sym (sound-word (c .before .before .before .before .before .args .run .now) (sym (c .before .is-digit .ensures) ∙ not-true _ (c .if2 .taken)))
-
-number-of-requires : tie.Need-number-of-requires
-number-of-requires c κs = search needs
-
-enum-told : tie.Need-enum-told
-enum-told c = search needs
-
-enum-told-2 : tie.Need-enum-told-2
-enum-told-2 c = search needs
 
 returns-3 : tie.Need-returns-3
 returns-3 c =
@@ -46,11 +31,11 @@ is-sound-spec =
     tie.close
     (tie.spec
     returns
-    shared-slice-read-is-digit
-    is-digit-requires
+    (λ c. search needs)
+    (λ c κs. search needs)
     returns-2
-    number-of-requires
-    enum-told
-    enum-told-2
+    (λ c κs. search needs)
+    (λ c. search needs)
+    (λ c. search needs)
     returns-3
     returns-4)

@@ -8,21 +8,12 @@ use borrow.Author.Needs.{needs}
 use Rattle.text.proofs.next_at.Statement.{statement}
 use Rattle.text.proofs.next_at.Tie as tie
 
-scan-requires : tie.Need-scan-requires
-scan-requires c κs = search needs
-
 returns : tie.Need-returns
 returns c =
     let k = c .before in
     let s = k .before .before .args .s .now in
     let e = stands asked-gaps s _ (k .scan .ensures .0) in
     sym (next-end s _ (k .scan .result) e (omega arith))
-
-shared-slice-read-b : tie.Need-shared-slice-read-b
-shared-slice-read-b c = search needs
-
-add-t10 : tie.Need-add-t10
-add-t10 c = search needs
 
 returns-2 : tie.Need-returns-2
 returns-2 c =
@@ -31,18 +22,12 @@ returns-2 c =
     let e = stands asked-gaps s _ (k .scan .ensures .0) in
     sym (next-open s _ (k .scan .result) e (omega arith) (c .if2 .taken))
 
-add-t11 : tie.Need-add-t11
-add-t11 c = search needs
-
 returns-3 : tie.Need-returns-3
 returns-3 c =
     let k = c .before .before .before .before in
     let s = k .before .before .args .s .now in
     let e = stands asked-gaps s _ (k .scan .ensures .0) in
     sym (next-close s _ (k .scan .result) e (omega arith) (c .if3 .taken))
-
-scan-requires-2 : tie.Need-scan-requires-2
-scan-requires-2 c κs = search needs
 
 returns-4 : tie.Need-returns-4
 returns-4 c =
@@ -57,12 +42,12 @@ pub next-at-spec : {M : Type 1} → statement M
 next-at-spec =
     tie.close
     (tie.spec
-    scan-requires
+    (λ c κs. search needs)
     returns
-    shared-slice-read-b
-    add-t10
+    (λ c. search needs)
+    (λ c. search needs)
     returns-2
-    add-t11
+    (λ c. search needs)
     returns-3
-    scan-requires-2
+    (λ c κs. search needs)
     returns-4)

@@ -9,33 +9,15 @@ use borrow.Author.Needs.{needs}
 use Rattle.text.proofs.one_form.Statement.{statement}
 use Rattle.text.proofs.one_form.Tie as tie
 
-scan-requires : tie.Need-scan-requires
-scan-requires c κs = search needs
-
 returns : tie.Need-returns
 returns c =
     let s = c .before .before .before .args .s .now in
     ap tested (sym (no-form s _ (stands asked-spaces s 0 (c .before .scan .ensures .0)) _ (c .if1 .taken)))
 
-shared-slice-read-if2 : tie.Need-shared-slice-read-if2
-shared-slice-read-if2 c = search needs
-
 returns-2 : tie.Need-returns-2
 returns-2 c =
     let s = c .before .before .before .before .before .args .s .now in
     ap tested (sym (not-opened s _ (stands asked-spaces s 0 (c .before .before .before .scan .ensures .0)) (search needs) _ (c .if2 .taken)))
-
-add-close-at : tie.Need-add-close-at
-add-close-at c = search needs
-
-close-at-requires : tie.Need-close-at-requires
-close-at-requires c κs = search needs
-
-enum-known-j : tie.Need-enum-known-j
-enum-known-j c = search needs
-
-enum-told : tie.Need-enum-told
-enum-told c = search needs
 
 returns-3 : tie.Need-returns-3
 returns-3 c =
@@ -74,14 +56,14 @@ pub one-form-spec : {M : Type 1} → statement M
 one-form-spec =
     tie.close
     (tie.spec
-    scan-requires
+    (λ c κs. search needs)
     returns
-    shared-slice-read-if2
+    (λ c. search needs)
     returns-2
-    add-close-at
-    close-at-requires
-    enum-known-j
-    enum-told
+    (λ c. search needs)
+    (λ c κs. search needs)
+    (λ c. search needs)
+    (λ c. search needs)
     returns-3
     scan-requires-2
     returns-4

@@ -8,28 +8,10 @@ use Rattle.text.proofs.reading_of.Tie as tie
 returns : tie.Need-returns
 returns c = sym (too-long (c .before .before .args .line .now) (c .if1 .taken))
 
-all-allowed-requires : tie.Need-all-allowed-requires
-all-allowed-requires c κs = search needs
-
-enum-told : tie.Need-enum-told
-enum-told c = search needs
-
-enum-told-2 : tie.Need-enum-told-2
-enum-told-2 c = search needs
-
 returns-2 : tie.Need-returns-2
 returns-2 c =
     let e = c .before .before .before in
     sym (bad-byte (e .before .before .args .line .now) (e .if1 .left) (failed (c .before .before .all-allowed .ensures) (c .enum-told2 .given .1)))
-
-one-form-requires : tie.Need-one-form-requires
-one-form-requires c κs = search needs
-
-enum-told-3 : tie.Need-enum-told-3
-enum-told-3 c = search needs
-
-enum-told-4 : tie.Need-enum-told-4
-enum-told-4 c = search needs
 
 returns-3 : tie.Need-returns-3
 returns-3 c =
@@ -37,15 +19,6 @@ returns-3 c =
     let e = a .before .before .before in
     let byte = passed (a .before .before .all-allowed .ensures) (a .enum-told .given .1) in
     sym (not-one-form (e .before .before .args .line .now) (e .if1 .left) byte (failed (c .before .before .one-form .ensures) (c .enum-told4 .given .1)))
-
-all-sound-requires : tie.Need-all-sound-requires
-all-sound-requires c κs = search needs
-
-enum-told-5 : tie.Need-enum-told-5
-enum-told-5 c = search needs
-
-enum-told-6 : tie.Need-enum-told-6
-enum-told-6 c = search needs
 
 returns-4 : tie.Need-returns-4
 returns-4 c =
@@ -70,16 +43,16 @@ reading-of-spec =
     tie.close
     (tie.spec
     returns
-    all-allowed-requires
-    enum-told
-    enum-told-2
+    (λ c κs. search needs)
+    (λ c. search needs)
+    (λ c. search needs)
     returns-2
-    one-form-requires
-    enum-told-3
-    enum-told-4
+    (λ c κs. search needs)
+    (λ c. search needs)
+    (λ c. search needs)
     returns-3
-    all-sound-requires
-    enum-told-5
-    enum-told-6
+    (λ c κs. search needs)
+    (λ c. search needs)
+    (λ c. search needs)
     returns-4
     returns-5)

@@ -15,9 +15,6 @@ Inv-loop a b i₀ i = (i ≤ length a) × (i ≤ length b) × (same (drop i a) (
 abbrev μ-loop : tie.MeasureT-loop
 μ-loop a b i₀ i = length a - i
 
-loop-holds : tie.Need-loop-holds Inv-loop μ-loop
-loop-holds c = search needs
-
 returns : tie.Need-returns Inv-loop μ-loop
 returns c =
     let h = c .before .before in
@@ -26,12 +23,6 @@ returns c =
     let i = h .loop .i in
     sym (same-short a b i (omega arith) (omega arith)) ∙ h .loop .inv .2
 
-shared-slice-read-if2 : tie.Need-shared-slice-read-if2 Inv-loop μ-loop
-shared-slice-read-if2 c = search needs
-
-shared-slice-read-if2-2 : tie.Need-shared-slice-read-if2-2 Inv-loop μ-loop
-shared-slice-read-if2-2 c = search needs
-
 returns-2 : tie.Need-returns-2 Inv-loop μ-loop
 returns-2 c =
     let h = c .before .before .before .before .before in
@@ -39,12 +30,6 @@ returns-2 c =
     let b = h .before .args .b .now in
     let i = h .loop .i in
     sym (same-not a b i (omega arith) (omega arith) (c .if2 .taken)) ∙ h .loop .inv .2
-
-add-i : tie.Need-add-i Inv-loop μ-loop
-add-i c = search needs
-
-loop-less : tie.Need-loop-less Inv-loop μ-loop
-loop-less c = search needs
 
 loop-again : tie.Need-loop-again Inv-loop μ-loop
 loop-again c =
@@ -68,12 +53,12 @@ same-spec =
     (tie.spec
     Inv-loop
     μ-loop
-    loop-holds
+    (λ c. search needs)
     returns
-    shared-slice-read-if2
-    shared-slice-read-if2-2
+    (λ c. search needs)
+    (λ c. search needs)
     returns-2
-    add-i
-    loop-less
+    (λ c. search needs)
+    (λ c. search needs)
     loop-again
     returns-3)
