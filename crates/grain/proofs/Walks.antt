@@ -19,7 +19,7 @@ use Rattle.grain.specs.declared.Sums.{Sums}
 use Rattle.grain.specs.Depth.{cellArea}
 use Rattle.grain.specs.Section.{cellMost, keptFrom, keptOf, fitsFrom, fits, firstMoment, highMoment, oldTwice, sectionMoment}
 use Rattle.grain.specs.Within.{SectionWithin}
-use Rattle.grain.specs.Walk.{sizesOf, withKept, innerCell, lastCell, lastAnswer, sectionAnswer, noSums, Room}
+use Rattle.grain.specs.Walk.{sizesOf, withKept, innerCell, lastCell, lastAnswer, sectionAnswer, noSums, SumsFit}
 use Rattle.grain.proofs.Sections.{CellBounds, cell-bounds, areas-le, kept-inner, kept-last, first-half, never-negative}
 
 -- After i cells of l: what the sums have, and what is still ahead, make up the whole; and the sums are small.
@@ -55,7 +55,7 @@ sum-cons f x xs = refl
 
 module _ (l : List Cell) (i : ℕ) (s : Sums) (c : Cell) (within : sumOf cellWidth l ≤ 40000) (b : CellBounds c) (a : Ahead l i s) where
   -- there is room for a cell that is next
-  pub room-next : (cs : List Cell) → drop i l ≡ c ∷ cs → i ≤ 8 → Room s (sizesOf c)
+  pub room-next : (cs : List Cell) → drop i l ≡ c ∷ cs → i ≤ 8 → SumsFit s (sizesOf c)
   room-next cs e h =
       let w = rw (e, sum-cons cellWidth c cs) at (a .widths) in
       record {
@@ -166,7 +166,7 @@ module _ (p : Part) (w : PartWithin p) (eight : length (p .cells) ≡ 8) (i : �
     bounds : CellBounds (getD (p .cells) i pastSlot .cell)
     bounds = cell-bounds _ (ap cellLimits (sym here) ∙ all-at cellLimits (cellsOf p) i pastCell (w .cells) (omega (arith, count-is)))
 
-    pub part-room : Room s (sizesOf (getD (p .cells) i pastSlot .cell))
+    pub part-room : SumsFit s (sizesOf (getD (p .cells) i pastSlot .cell))
     part-room = room-next (cellsOf p) i s _ (w .widths) bounds a (drop (i + 1) (cellsOf p)) next (omega (arith, w .count))
 
     pub part-next : i + 1 < p .count → Ahead (cellsOf p) (i + 1) (innerCell s (sizesOf (getD (p .cells) i pastSlot .cell)))

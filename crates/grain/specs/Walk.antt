@@ -10,7 +10,7 @@ use Rattle.record.specs.declared.Mode.{Mode}
 use Rattle.record.specs.declared.Part.{Part}
 use Rattle.record.specs.declared.Hold.{Hold}
 use Rattle.record.specs.Held.{cellWidth, partsOf}
-use Rattle.grain.specs.declared.Sizes.{Sizes}
+use Rattle.grain.specs.declared.CellSizes.{CellSizes}
 use Rattle.grain.specs.declared.Sums.{Sums}
 use Rattle.grain.specs.declared.Shifted.{Shifted}
 use Rattle.grain.specs.declared.Shifted.the-variants.{Moment, NoFit}
@@ -19,11 +19,11 @@ use Rattle.grain.specs.Section.{cellMost, kept, firstMoment, fits, secti
 use Rattle.grain.specs.Sum.{partFits, partSection, partMoment, holdFits}
 
 -- a cell's width, void area, and the most that it can hold
-abbrev pub sizesOf : Cell → Sizes
+abbrev pub sizesOf : Cell → CellSizes
 sizesOf c = record { width = cellWidth c; area = cellArea c; most = cellMost c }
 
 -- the sums with a cell that keeps the area a and leaves the excess e
-unfoldable pub withKept : Sums → Sizes → (a e : ℕ) → Sums
+unfoldable pub withKept : Sums → CellSizes → (a e : ℕ) → Sums
 withKept s z a e =
     record {
       x = s .x + z .width;
@@ -34,10 +34,10 @@ withKept s z a e =
     }
 
 -- every cell but the last; the last
-abbrev pub innerCell : Sums → Sizes → Sums
+abbrev pub innerCell : Sums → CellSizes → Sums
 innerCell s z = withKept s z (min (z .area) (z .most)) (s .excess + (z .area - z .most))
 
-abbrev pub lastCell : Sums → Sizes → Sums
+abbrev pub lastCell : Sums → CellSizes → Sums
 lastCell s z = withKept s z (z .area + s .excess) 0
 
 -- the section moment from the sums of all cells
@@ -45,7 +45,7 @@ abbrev pub momentOf : Sums → ℕ
 momentOf s = s .high - s .first - s .old / 2
 
 -- the answer at the last cell
-unfoldable pub lastAnswer : Sums → Sizes → Shifted
+unfoldable pub lastAnswer : Sums → CellSizes → Shifted
 lastAnswer s z = cond (leb (z .area + s .excess) (z .most)) (Moment (momentOf (lastCell s z))) NoFit
 
 -- the answer of a section: its moment, or that its void does not fit
@@ -57,7 +57,7 @@ abbrev pub noSums : Sums
 noSums = record { x = 0; excess = 0; high = 0; first = 0; old = 0 }
 
 -- The sums are small enough for one cell more: a section is at most 40,000 mm wide and 5,000 mm deep.
-pub record Room (s : Sums) (z : Sizes) : Type 0 where
+pub record SumsFit (s : Sums) (z : CellSizes) : Type 0 where
   pub width : s .x + z .width ≤ 40000
   pub area : z .area + s .excess ≤ 200000000
   pub high : s .high ≤ 2 ^ 60

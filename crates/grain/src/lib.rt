@@ -6,7 +6,7 @@ ghost use Rattle.record.specs.Held.{cellsOf};
 ghost use Rattle.limits.specs.Limits.{sectionLimits, partLimits, holdLimits};
 ghost use Rattle.grain.specs.Depth.{standardDepth, wingDepth, cellDepth};
 ghost use Rattle.grain.specs.Section.{mostHeld, kept, base, firstMoment};
-ghost use Rattle.grain.specs.Walk.{Room, sizesOf, withKept, innerCell, lastCell, lastAnswer, sectionAnswer, partSectionAnswer, partAnswer, partsAnswer};
+ghost use Rattle.grain.specs.Walk.{SumsFit, sizesOf, withKept, innerCell, lastCell, lastAnswer, sectionAnswer, partSectionAnswer, partAnswer, partsAnswer};
 ghost use Rattle.grain.specs.Slack.{slackMoment};
 ghost use Rattle.grain.specs.Sum.{percentage, weighedOf};
 use record::Cell;
@@ -15,7 +15,7 @@ use record::Mode;
 use record::Part;
 
 // A cell's width, void area, and the most that it can hold.
-pub struct Sizes {
+pub struct CellSizes {
     pub width: u64,
     pub area: u64,
     pub most: u64,
@@ -136,12 +136,12 @@ fn most_held(w: u64, g: u64) -> u64
     }
 }
 
-fn sizes_of(cell: Cell) -> Sizes
+fn sizes_of(cell: Cell) -> CellSizes
     ensures { λ r. ⌜ r ≡ sizesOf cell ⌝ }
 {
     let width = record::width_of(cell) as u64;
     let lip = record::lip_of(cell) as u64;
-    Sizes {
+    CellSizes {
         width,
         area: width * depth_of(cell),
         most: most_held(width, lip),
@@ -156,8 +156,9 @@ fn base_of(area: u64) -> u64
     whole::root_of(200000 * area / SLOPE_15)
 }
 
-// n / d, rounded down: what is taken away is never too much, so that the moment left is never too small.
-fn cut(n: u64, d: u64) -> u64
+// n / d, rounded down: what is taken away is never too much, so that the moment left is never too small. Apart, so that the prover meets
+// the division by itself.
+fn divide_down(n: u64, d: u64) -> u64
     requires { ⌜ (1 < d) × (n < 2 ^ 63) × (d < 2 ^ 32) ⌝ }
     ensures { λ r. ⌜ r ≡ n / d ⌝ }
 {
@@ -170,15 +171,15 @@ fn first_moment(w: u64, area: u64) -> u64
     ensures { λ r. ⌜ (r ≡ firstMoment (kept w area)) × (r < 2 ^ 43) ⌝ }
 {
     if 200000 * area <= SLOPE_15 * (w * w) {
-        cut(area * base_of(area), 3)
+        divide_down(area * base_of(area), 3)
     } else {
-        cut(600000 * (area * w) - SLOPE_15 * (w * (w * w)), 1200000)
+        divide_down(600000 * (area * w) - SLOPE_15 * (w * (w * w)), 1200000)
     }
 }
 
 // The sums with a cell that keeps the area `keeps` and leaves the excess.
-fn with_kept(s: Sums, z: Sizes, keeps: u64, excess: u64) -> Sums
-    requires { ⌜ Room s z × (keeps ≤ 200000000) ⌝ }
+fn with_kept(s: Sums, z: CellSizes, keeps: u64, excess: u64) -> Sums
+    requires { ⌜ SumsFit s z × (keeps ≤ 200000000) ⌝ }
     ensures { λ r. ⌜ r ≡ withKept s z keeps excess ⌝ }
 {
     let x = s.x + z.width;
@@ -192,8 +193,8 @@ fn with_kept(s: Sums, z: Sizes, keeps: u64, excess: u64) -> Sums
 }
 
 // A cell that is not the last keeps what it can hold, and leaves the rest.
-fn inner_cell(s: Sums, z: Sizes) -> Sums
-    requires { ⌜ Room s z ⌝ }
+fn inner_cell(s: Sums, z: CellSizes) -> Sums
+    requires { ⌜ SumsFit s z ⌝ }
     ensures { λ r. ⌜ r ≡ innerCell s z ⌝ }
 {
     let keeps = choice::smaller(z.area, z.most);
@@ -202,8 +203,8 @@ fn inner_cell(s: Sums, z: Sizes) -> Sums
 }
 
 // The last cell takes the excess of all.
-fn last_cell(s: Sums, z: Sizes) -> Shifted
-    requires { ⌜ Room s z × (lastCell s z .first + lastCell s z .old / 2 ≤ lastCell s z .high) ⌝ }
+fn last_cell(s: Sums, z: CellSizes) -> Shifted
+    requires { ⌜ SumsFit s z × (lastCell s z .first + lastCell s z .old / 2 ≤ lastCell s z .high) ⌝ }
     ensures { λ r. ⌜ r ≡ lastAnswer s z ⌝ }
 {
     let keeps = z.area + s.excess;

@@ -104,7 +104,7 @@ pub fn number_at(s: &[u8], at: usize) -> Item
 }
 
 // A number above 65,535 is carried as 65,535, which is above every limit too.
-fn keep(v: u32) -> u16
+fn as_field(v: u32) -> u16
     ensures { λ r. ⌜ r ≡ carried v ⌝ }
 {
     if v <= 65535 { v as u16 } else { 65535 }
@@ -117,7 +117,7 @@ pub fn size_at(s: &[u8], at: usize) -> Size
     let Item::Value(v, q) = number_at(s, at) else {
         return Size::NoSize;
     };
-    Size::Kept(keep(v), q)
+    Size::Kept(as_field(v), q)
 }
 
 // The last `want` numbers of a form, and its closing bracket.

@@ -78,7 +78,7 @@ fn weights_of(holds: [Hold; 16]) -> Weights
     Weights::Together(sum)
 }
 
-// Gives the column back: that it has ten KN is known of a parameter alone.
+// Gives the column back, for the prover: that it has ten KN is known of a parameter alone.
 fn of_ten(k: Column) -> Column
     ensures { λ r. ⌜ (r ≡ k) × (length (r .kn) ≡ 10) ⌝ }
 {

@@ -77,7 +77,7 @@ fn last_end(block: &[u8], at: usize) -> usize
     e
 }
 
-// The place behind a byte of the block.
+// The place behind a byte of the block. Apart, so that the loop over lines knows at once that it is no further than the block's end.
 fn behind(block: &[u8], at: usize) -> usize
     requires { ⌜ at < length (now block) ⌝ }
     ensures { λ r. ⌜ (r ≡ at + 1) × (r ≤ length (now (block .entry))) ⌝ }

@@ -12,7 +12,7 @@ use Rattle.whole.specs.Line.{onLine, roundDown}
 use Rattle.whole.proofs.Dividing.{ceil-low, ceil-high}
 use Rattle.sign.proofs.Signs.{sub-reads}
 use Rattle.whole.proofs.Lines.{rounded-pos, rounded-neg}
-use Rattle.stability.specs.Figures.{RoundedDown}
+use Rattle.stability.specs.Figures.{TowardsLower}
 use Rattle.stability.proofs.Nearness.{Close}
 
 -- ---- between two points
@@ -71,36 +71,36 @@ between a c L U n k P₁ P₂ M₁ M₂ pk h l r u v =
         rw (finer k (c - a) (s - a) M₁ M₂ i, finer k (c - a) (s - a) P₁ P₂ i) (mul-le-mul-left k w)
 
 -- ---- rounded down: z is the whole part of (p − m)/h
-pub floor-is : (p m h : ℕ) → 0 < h → RoundedDown p m h (roundDown p m h)
+pub floor-is : (p m h : ℕ) → 0 < h → TowardsLower p m h (roundDown p m h)
 floor-is p m h ph = go (decLe m p)
   where
-    above : (z : ℤ) → m ≤ p → plus z ≡ (p - m) / h → minus z ≡ 0 → RoundedDown p m h z
+    above : (z : ℤ) → m ≤ p → plus z ≡ (p - m) / h → minus z ≡ 0 → TowardsLower p m h z
     above z k e f =
         record {
           low = rw (e, f) (omega (arith, div-mul-le-self (p - m) h));
           high = rw (e, f) (omega (arith, lt-div-mul-add {a = p - m} ph));
         }
 
-    under : (z : ℤ) → p ≤ m → plus z ≡ 0 → minus z ≡ ceilDiv (m - p) h → RoundedDown p m h z
+    under : (z : ℤ) → p ≤ m → plus z ≡ 0 → minus z ≡ ceilDiv (m - p) h → TowardsLower p m h z
     under z k e f =
         record {
           low = rw (e, f) (omega (arith, ceil-low (m - p) h ph));
           high = rw (e, f) (omega (arith, ceil-high (m - p) h ph));
         }
 
-    go : Dec (m ≤ p) → RoundedDown p m h (roundDown p m h)
+    go : Dec (m ≤ p) → TowardsLower p m h (roundDown p m h)
     go (yes k) =
         let r = sub-reads ((p - m) / h) 0 in
-        subst (λ (z : ℤ). RoundedDown p m h z) (rounded-pos p m h ph k)
+        subst (λ (z : ℤ). TowardsLower p m h z) (rounded-pos p m h ph k)
         (above (subℕ ((p - m) / h) 0) k (omega (arith, r .pluses)) (omega (arith, r .minuses)))
     go (no f) =
         let k : p ≤ m = le-of-lt (lt-of-not-le f) in
         let r = sub-reads 0 (ceilDiv (m - p) h) in
-        subst (λ (z : ℤ). RoundedDown p m h z) (rounded-neg p m h ph k)
+        subst (λ (z : ℤ). TowardsLower p m h z) (rounded-neg p m h ph k)
         (under (subℕ 0 (ceilDiv (m - p) h)) k (omega (arith, r .pluses)) (omega (arith, r .minuses)))
 
 -- the same quotient at another scale
-pub floor-move : (p m h P M H : ℕ) (z : ℤ) → 0 < h → 0 < H → P * h ≡ p * H → M * h ≡ m * H → RoundedDown p m h z → RoundedDown P M H z
+pub floor-move : (p m h P M H : ℕ) (z : ℤ) → 0 < h → 0 < H → P * h ≡ p * H → M * h ≡ m * H → TowardsLower p m h z → TowardsLower P M H z
 floor-move p m h P M H z ph pH e f k =
     record {
       low = le-of-mul-le-mul-right {k = h} (omega (arith, mul-le-mul-right H (k .low))) ph;
@@ -108,14 +108,14 @@ floor-move p m h P M H z ph pH e f k =
     }
 
 -- it is below zero exactly where p is below m
-pub floor-not-below : (p m h : ℕ) (z : ℤ) → minus z ≡ 0 → RoundedDown p m h z → m ≤ p
+pub floor-not-below : (p m h : ℕ) (z : ℤ) → minus z ≡ 0 → TowardsLower p m h z → m ≤ p
 floor-not-below p m h z e k = omega (arith, rw e at (k .low))
 
-pub floor-below : (p m h : ℕ) (z : ℤ) → plus z ≡ 0 → 0 < minus z → RoundedDown p m h z → p < m
+pub floor-below : (p m h : ℕ) (z : ℤ) → plus z ≡ 0 → 0 < minus z → TowardsLower p m h z → p < m
 floor-below p m h z e f k = omega (arith, rw e at (k .high), mul-le-mul-right h f)
 
 -- of a whole number nothing is lost
-pub floor-whole : (p m h : ℕ) (z : ℤ) → RoundedDown (h * p) (h * m) h z → h * p + minus z * h ≤ plus z * h + h * m
+pub floor-whole : (p m h : ℕ) (z : ℤ) → TowardsLower (h * p) (h * m) h z → h * p + minus z * h ≤ plus z * h + h * m
 floor-whole p m h z k =
     let e : p + minus z < plus z + 1 + m = lt-of-mul-lt-mul-right h (omega (arith, k .high)) in
     let f : p + minus z ≤ plus z + m = omega arith in
@@ -150,10 +150,10 @@ module _ (q w h p m P M : ℕ) (c : Close q (w * h) p m P M) where
   pub close-exceeds : p ≤ m → P < M + w * (h * q)
   close-exceeds k = omega (arith, c .high, mul-le-mul-left q k)
 
-  pub floor-low : (z : ℤ) → RoundedDown p m h z → plus z * (h * q) + M ≤ P + minus z * (h * q)
+  pub floor-low : (z : ℤ) → TowardsLower p m h z → plus z * (h * q) + M ≤ P + minus z * (h * q)
   floor-low z k = omega (arith, c .low, mul-le-mul-left q (k .low))
 
-  pub floor-high : (z : ℤ) → RoundedDown p m h z → P + minus z * (h * q) < (plus z + (w + 1)) * (h * q) + M
+  pub floor-high : (z : ℤ) → TowardsLower p m h z → P + minus z * (h * q) < (plus z + (w + 1)) * (h * q) + M
   floor-high z k = omega (arith, c .high, mul-le-mul-left q (le-of-lt (k .high)))
 
   pub whole-high : (z : ℤ) → p + minus z * h ≤ plus z * h + m → P + minus z * (h * q) < (plus z + w) * (h * q) + M

@@ -20,12 +20,12 @@ use Rattle.stability.specs.declared.Judgement.the-variants.{Passed, Shor
 use Rattle.stability.specs.Angles.{angle, width, heelLimit}
 use Rattle.stability.specs.Arms.{span, fluidKG, spanKM, gm, diffs}
 use Rattle.stability.specs.Area.{plusAt, minusAt, stretchArea, areaOver, area}
-use Rattle.stability.specs.Verdict.{diffAt, upper, isBelow, failsAmong, failsBeyond, judgedBy, judgementCode, verdictOf}
+use Rattle.stability.specs.Verdict.{Stretch, diffAt, upper, isBelow, failsAmong, failsBeyond, judgedBy, judgementCode, verdictOf}
 use Rattle.stability.specs.Exact.{apart, kmOver, den, exactKN, exactTaken, OnStretch, exactTen, exactAt, NotBelow, LessThan, NotUnder, LessOver, ExactGMBelow, exactStretch, exactArea}
-use Rattle.stability.specs.Figures.{RoundedDown, AreaIs, Figures}
+use Rattle.stability.specs.Figures.{TowardsLower, AreaIs, Figures}
 use Rattle.stability.specs.Demand.{Judgeable, PassedMeans, ShortAtHeelMeans, ShortBeyondMeans, Demand3}
 use Rattle.stability.specs.Margins.{Margins}
-use Rattle.stability.proofs.Tens.{angle-is, angle-rises, width-some, Stretch}
+use Rattle.stability.proofs.Tens.{angle-is, angle-rises, width-some}
 use Rattle.stability.proofs.Nearness.{Close, span-some, den-some, km-is, close, tenth}
 use Rattle.stability.proofs.Areas.{Near, one-lower, one-upper, area-low, area-high}
 use Rattle.stability.proofs.Between.{above-sub, between, floor-is, close-line, close-not-below, close-exceeds, floor-low, floor-high, whole-high}
@@ -131,7 +131,7 @@ module _ (b : Basis) (jd : Judgeable b) where
 
   -- ---- DIFF at a whole angle
   module _ (x : ℕ) where
-    floor-along : (i : ℕ) → Stretch x i → RoundedDown (lineAlong (plusAt (diffs b)) i x 1) (lineAlong (minusAt (diffs b)) i x 1) (width i * 1) (diffAt (diffs b) x)
+    floor-along : (i : ℕ) → Stretch x i → TowardsLower (lineAlong (plusAt (diffs b)) i x 1) (lineAlong (minusAt (diffs b)) i x 1) (width i * 1) (diffAt (diffs b) x)
     floor-along i s = rw (mul-one (width i), mul-one (angle i)) (diff-floor (diffs b) x i s)
 
     pub diff-low : (i : ℕ) → i < 9 → On i x 1 → NotUnder (diffAt (diffs b) x) (lineExact b i x 1)
@@ -157,7 +157,7 @@ module _ (b : Basis) (jd : Judgeable b) where
   ten-high k h = omega (arith, close b jd k h .high)
 
   -- ---- GM
-  pub gm-is : RoundedDown (kmOver b) (1000 * (b .load .kg + b .load .fs) * apart b) (apart b) (gm b)
+  pub gm-is : TowardsLower (kmOver b) (1000 * (b .load .kg + b .load .fs) * apart b) (apart b) (gm b)
   unfolding gm
   gm-is = rw (km-is b jd) (floor-is (spanKM b) (1000 * fluidKG b * span b) (span b) (span-some b jd))
 

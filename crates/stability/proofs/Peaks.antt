@@ -15,13 +15,7 @@ use borrow.Author.Count.{below-more}
 use Rattle.sign.specs.Sign.{AtMost, Under}
 use Rattle.sign.proofs.Signs.{lt-under, nlt-most}
 use Rattle.whole.proofs.Lists.{getD-any}
-use Rattle.stability.specs.Verdict.{greater, peak, failsAt, failsAmong}
-
--- r is the least of the first n places at which they are greatest
-pub record Peak (ds : List ℤ) (n r : ℕ) : Type 0 where
-  pub within : r < n
-  pub greatest : (k : ℕ) → k < n → AtMost (getD ds k (pos 0)) (getD ds r (pos 0))
-  pub least : (k : ℕ) → k < r → Under (getD ds k (pos 0)) (getD ds r (pos 0))
+use Rattle.stability.specs.Verdict.{greater, Peak, peak, PeakRule, failsAt, failsAmong}
 
 pub peak-unique : (ds : List ℤ) (n r s : ℕ) → Peak ds n r → Peak ds n s → r ≡ s
 peak-unique ds n r s p q = go (decLe r s) (decLe s r)
@@ -72,7 +66,7 @@ alone d =
     only zero h = omega arith
     only (suc k) h = absurd (omega arith)
 
-pub peak-is : (ds : List ℤ) → 0 < length ds → Peak ds (length ds) (peak ds)
+pub peak-is : PeakRule
 unfolding peak
 peak-is [] h = absurd (omega arith)
 peak-is (d ∷ []) h = alone d

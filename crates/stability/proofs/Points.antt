@@ -15,11 +15,11 @@ use Rattle.sign.proofs.Signs.{not-below, below}
 use Rattle.whole.proofs.Lines.{line-start, line-end}
 use Rattle.stability.specs.Angles.{angle, width}
 use Rattle.stability.specs.Area.{plusAt, minusAt}
-use Rattle.stability.specs.Verdict.{stretchOf, diffAt, isBelow}
+use Rattle.stability.specs.Verdict.{Stretch, stretchOf, diffAt, isBelow}
 use Rattle.stability.specs.Exact.{angleOf, wide, OnStretch, along, den, exactKN, exactTaken, Exact, exactAt}
-use Rattle.stability.specs.Figures.{RoundedDown}
+use Rattle.stability.specs.Figures.{TowardsLower}
 use Rattle.stability.specs.declared.Basis.{Basis}
-use Rattle.stability.proofs.Tens.{angle-is, angle-rises, angle-le, width-some, Stretch, stretch-is}
+use Rattle.stability.proofs.Tens.{angle-is, angle-rises, angle-le, width-some, stretch-is}
 use Rattle.stability.proofs.Between.{sub-times, floor-is, floor-move, floor-not-below, floor-below, floor-whole}
 
 -- ---- the ten angles rise
@@ -115,7 +115,7 @@ module _ (ds : List ℤ) (x i : ℕ) (s : Stretch x i) where
   here : Stretch x (stretchOf x)
   here = stretch-is x (omega (arith, s .to, angle-le (suc i) (omega (arith, s .within))))
 
-  pub diff-floor : RoundedDown (lineOf (plusAt ds) i x) (lineOf (minusAt ds) i x) (width i) (diffAt ds x)
+  pub diff-floor : TowardsLower (lineOf (plusAt ds) i x) (lineOf (minusAt ds) i x) (width i) (diffAt ds x)
   unfolding diffAt
   diff-floor =
       let j = stretchOf x in
@@ -133,7 +133,7 @@ module _ (ds : List ℤ) (x i : ℕ) (s : Stretch x i) where
       let r = below (diffAt ds x) e in
       floor-below (lineOf (plusAt ds) i x) (lineOf (minusAt ds) i x) (width i) (diffAt ds x) (r .none) (r .some) diff-floor
 
-pub rounded-along : (ds : List ℤ) (i x : ℕ) → i < 9 → OnStretch i x 1 → RoundedDown (along (plusAt ds) i x 1) (along (minusAt ds) i x 1) (wide i) (diffAt ds x)
+pub rounded-along : (ds : List ℤ) (i x : ℕ) → i < 9 → OnStretch i x 1 → TowardsLower (along (plusAt ds) i x 1) (along (minusAt ds) i x 1) (wide i) (diffAt ds x)
 rounded-along ds i x h o =
     rw (along-is (plusAt ds) i x 1 o, along-is (minusAt ds) i x 1 o, along-whole (plusAt ds) i x, along-whole (minusAt ds) i x, wide-is i)
     (diff-floor ds x i (on-whole i x h (on-is i x 1 o)))

@@ -58,7 +58,7 @@ module _ (b : Basis) (jd : Judgeable b) where
       omega (arith, area-le u n (omega arith), p)
 
   -- all figures of a verdict
-  pub record Sizes (s : Ship) : Type 0 where
+  pub record FigureBounds (s : Ship) : Type 0 where
     pub gmAbove : plus (verdictOf s b .gm) ≤ 2 ^ 34
     pub gmBelow : minus (verdictOf s b .gm) ≤ 2 ^ 34
     pub diffAbove : plus (verdictOf s b .diff) ≤ 2 ^ 34
@@ -66,7 +66,7 @@ module _ (b : Basis) (jd : Judgeable b) where
     pub upper : verdictOf s b .upper ≤ 4000
     pub area : verdictOf s b .area ≤ 2 ^ 40
 
-  pub sizes : (s : Ship) → Sizes s
+  pub sizes : (s : Ship) → FigureBounds s
   unfolding verdictOf
   sizes s =
       let g = gm-le in

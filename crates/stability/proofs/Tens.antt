@@ -16,7 +16,7 @@ use Rattle.whole.proofs.Lists.{tabulate-at}
 use Rattle.stability.specs.declared.Basis.{Basis}
 use Rattle.stability.specs.Angles.{angles, sines, angle, sine, width}
 use Rattle.stability.specs.Arms.{knArm, kgArm, rightingArm, heelingArm, diff, diffs}
-use Rattle.stability.specs.Verdict.{anglesBelow, stretchOf}
+use Rattle.stability.specs.Verdict.{anglesBelow, Stretch, stretchOf, StretchRule}
 use Rattle.stability.specs.Exact.{angleOf, sineOf}
 
 -- ---- the tables are the printed ones
@@ -57,11 +57,6 @@ unfolding sine
 sine-le k h = leb→le _ _ (all-at (λ k. leb (getD sines k 0) 642788) 10 tt k h)
 
 -- ---- the stretch in which an angle lies
-pub record Stretch (x i : ℕ) : Type 0 where
-  pub within : i < 9
-  pub from : angle i ≤ x
-  pub to : x ≤ angle (suc i)
-
 below-last : (n x : ℕ) → n < 9 → x ≤ angle (suc n) → Stretch x (anglesBelow n x)
 unfolding anglesBelow
 below-last zero x h k = record { within = omega arith; from = omega (arith, angle-zero); to = k }
@@ -71,7 +66,7 @@ below-last (suc n) x h k = go (λ f. below-last n x (omega arith) f) (decLe x (a
     go more (yes f) = rw (le-ltb (angle (suc n)) x f) (more f)
     go more (no f) = rw (lt-ltb (angle (suc n)) x (lt-of-not-le f)) (record { within = h; from = le-of-lt (lt-of-not-le f); to = k })
 
-pub stretch-is : (x : ℕ) → x ≤ 4000 → Stretch x (stretchOf x)
+pub stretch-is : StretchRule
 stretch-is x h = below-last 8 x (omega arith) (omega (arith, angle-nine))
 
 -- ---- the ten DIFFs

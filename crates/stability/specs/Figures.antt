@@ -11,7 +11,7 @@ use Rattle.stability.specs.declared.Verdict.{Verdict}
 use Rattle.stability.specs.Exact.{angleOf, apart, kmOver, knOver, kgOver, heelOver, den, OnStretch, wide, along, exactStretch}
 
 -- z is (p − m)/h rounded down, below zero too: h × z ≤ p − m < h × z + h
-pub record RoundedDown (p m h : ℕ) (z : ℤ) : Type 0 where
+pub record TowardsLower (p m h : ℕ) (z : ℤ) : Type 0 where
   pub low : plus z * h + m ≤ p + minus z * h
   pub high : p + minus z * h < (plus z + 1) * h + m
 
@@ -56,12 +56,12 @@ pub record AreaIs (ten : ℕ → ℤ) (u a : ℕ) : Type 0 where
 -- DIFF shown, that at the heel limit; UPPER; AREA. The denominators of the exact values are above zero.
 pub record Figures (s : Ship) (b : Basis) (v : Verdict) (heel : ℕ) (ten diff : ℕ → ℤ) : Type 0 where
   pub over : 0 < den b
-  pub gm : RoundedDown (kmOver b) (1000 * (b .load .kg + b .load .fs) * apart b) (apart b) (v .gm)
+  pub gm : TowardsLower (kmOver b) (1000 * (b .load .kg + b .load .fs) * apart b) (apart b) (v .gm)
   pub heelLimit : HeelIs s heel
   pub tens : (k : ℕ) → k < 10 → DiffIs b k (ten k)
   pub between :
       (i x : ℕ) → i < 9 → OnStretch i x 1 →
-      RoundedDown (along (λ k. plus (ten k)) i x 1) (along (λ k. minus (ten k)) i x 1) (wide i) (diff x)
+      TowardsLower (along (λ k. plus (ten k)) i x 1) (along (λ k. minus (ten k)) i x 1) (wide i) (diff x)
   pub shown : v .diff ≡ diff heel
   pub upper : UpperIs s ten (v .upper)
   pub area : AreaIs ten (v .upper) (v .area)

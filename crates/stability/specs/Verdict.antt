@@ -1,11 +1,12 @@
 -- Document 01, the verdict: DIFF between the ten angles, UPPER, and codes 40 to 43 in their order.
 use mathlib.Core.Bool.{Bool, false, cond, _&&_, _||_}
 use mathlib.Core.List.{List, [], _∷_}
-use Prim.Native.Nat.{ℕ, zero, suc, _-_, min}
+use Prim.Native.Nat.{ℕ, zero, suc, _-_, _≤_, _<_, min}
 use lib.Dec.{leb, ltb}
-use lib.ListN.{getD}
+use lib.ListN.{length, getD}
 use lib.Signed.{ltZ}
 use lib.IntN.{ℤ, pos}
+use Rattle.sign.specs.Sign.{AtMost, Under}
 use Rattle.whole.specs.Line.{lineAt}
 use Rattle.record.specs.declared.Ship.{Ship}
 use Rattle.stability.specs.declared.Basis.{Basis}
@@ -25,6 +26,15 @@ anglesBelow (suc n) x = cond (ltb (angle (suc n)) x) (suc n) (anglesBelow n x)
 abbrev pub stretchOf : ℕ → ℕ
 stretchOf x = anglesBelow 8 x
 
+-- the plain rule of the stretch: x lies between its two angles (`stretch-is`, proofs/Tens.antt)
+pub record Stretch (x i : ℕ) : Type 0 where
+  pub within : i < 9
+  pub from : angle i ≤ x
+  pub to : x ≤ angle (suc i)
+
+abbrev pub StretchRule : Type 0
+StretchRule = (x : ℕ) → x ≤ 4000 → Stretch x (stretchOf x)
+
 -- DIFF at the angle x: on the straight line of its stretch, rounded down
 unfoldable pub diffAt : List ℤ → ℕ → ℤ
 diffAt ds x =
@@ -38,6 +48,16 @@ greater d ds j = cond (ltZ d (getD ds j d)) (suc j) 0
 unfoldable pub peak : List ℤ → ℕ
 peak [] = 0
 peak (d ∷ ds) = greater d ds (peak ds)
+
+-- r is the least of the first n places at which they are greatest
+pub record Peak (ds : List ℤ) (n r : ℕ) : Type 0 where
+  pub within : r < n
+  pub greatest : (k : ℕ) → k < n → AtMost (getD ds k (pos 0)) (getD ds r (pos 0))
+  pub least : (k : ℕ) → k < r → Under (getD ds k (pos 0)) (getD ds r (pos 0))
+
+-- the plain rule of the peak: none is greater, and all before it are smaller (`peak-is`, proofs/Peaks.antt)
+abbrev pub PeakRule : Type 0
+PeakRule = (ds : List ℤ) → 0 < length ds → Peak ds (length ds) (peak ds)
 
 -- UPPER: the least of the ten angles at which DIFF is greatest, or FLOOD if smaller
 abbrev pub upper : ℕ → List ℤ → ℕ

@@ -145,7 +145,7 @@ fn gm_of(b: Basis) -> i64
     whole::rounded_down(km, 1000 * t.fluid * t.span, t.span)
 }
 
-// What rights the ship is rounded down, and what heels her is rounded up.
+// n / d, rounded down: what rights the ship is, and what heels her is rounded up. Apart, so that the prover meets the division by itself.
 fn rights(n: u64, d: u64) -> u64
     requires { ⌜ (0 < d) × (n + d < 2 ^ 64) ⌝ }
     ensures { λ r. ⌜ r ≡ n / d ⌝ }

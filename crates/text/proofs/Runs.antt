@@ -12,7 +12,7 @@ use Rattle.whole.specs.Lists.{all, within}
 use borrow.Author.Tests.{ne-eqb, eq-eqb, leb-true, leb-false, not-true, not-false}
 use Rattle.text.specs.Token.{opened, closed, run, opening, closing, inRun, startsRun, glue, tokens, same}
 use Rattle.text.specs.Line.{numberIfDigit, soundToken}
-use Rattle.text.specs.Places.{prefix, runLength, otherLength, startsToken, gap, tokenAt, nextOf}
+use Rattle.text.specs.Places.{RunRule, prefix, runLength, otherLength, startsToken, gap, tokenAt, nextOf}
 use Rattle.text.specs.declared.Next.{Next}
 use Rattle.text.specs.declared.Next.the-variants.{Open, Close, Run, End}
 use Rattle.whole.proofs.Lists.{drop-next, drop-end}
@@ -29,7 +29,7 @@ run-by b s true e ih = rw (ih e)
 run-by b s false e ih = rw (no-run s e)
 
 -- a run is one token
-pub run-token : (l : List ℕ) → startsRun l ≡ true → tokens l ≡ run (take (runLength l) l) ∷ tokens (drop (runLength l) l)
+pub run-token : RunRule
 unfolding tokens prefix
 run-token [] e =
     let z : _≡_ {A = ℕ} 0 1 = cc in absurd (omega arith)

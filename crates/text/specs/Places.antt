@@ -1,10 +1,11 @@
 -- Places of a line, as the reader carries them from step to step. The laws lead from them to the definitions of Token and Line.
-use mathlib.Core.Bool.{Bool, cond, not, _&&_, _||_}
+use mathlib.Core.Path.{_≡_}
+use mathlib.Core.Bool.{Bool, true, cond, not, _&&_, _||_}
 use mathlib.Core.List.{List, [], _∷_}
 use Prim.Native.Nat.{ℕ, suc, _+_, _-_}
 use lib.Bits.{bitAnd}
 use lib.Dec.{eqb, leb}
-use lib.ListN.{drop}
+use lib.ListN.{take, drop}
 use Rattle.text.specs.declared.Closed.{Closed}
 use Rattle.text.specs.declared.Closed.the-variants.{At, Nowhere}
 use Rattle.whole.specs.Lists.{all}
@@ -12,7 +13,7 @@ use Rattle.text.specs.declared.Number.{Number}
 use Rattle.text.specs.declared.Number.the-variants.{Is, Bad}
 use Rattle.text.specs.declared.Next.{Next}
 use Rattle.text.specs.declared.Next.the-variants.{Open, Close, Run, End}
-use Rattle.text.specs.Token.{space, opening, closing, isDigit, inRun, valueFrom, greatestNumber}
+use Rattle.text.specs.Token.{space, opening, closing, isDigit, inRun, startsRun, run, tokens, valueFrom, greatestNumber}
 
 -- the class of a byte: 1 a letter or digit, 2 a bracket, 4 a space, 8 any other
 abbrev pub classOf : ℕ → ℕ
@@ -43,6 +44,11 @@ closeAt (b ∷ s) p left deep =
 -- how many bytes the run in front has
 abbrev pub runLength : List ℕ → ℕ
 runLength s = prefix inRun s
+
+-- the plain rule of tokens where a run stands in front: all its bytes are one token, and the tokens behind it are those of what is left
+-- (`run-token`, proofs/Runs.antt)
+abbrev pub RunRule : Type 0
+RunRule = (s : List ℕ) → startsRun s ≡ true → tokens s ≡ run (take (runLength s) s) ∷ tokens (drop (runLength s) s)
 
 -- how many bytes in front are of no run
 abbrev pub otherLength : List ℕ → ℕ

@@ -9,7 +9,7 @@ returns c = let n = rw (c .enum-told .given .1) at (c .before .before .number-at
 returns-2 : tie.Need-returns-2
 returns-2 c =
     let n = rw (c .before .before .v .given .1) at (c .before .before .before .before .number-at .ensures) in
-    (rw (n .0, c .keep .ensures), n .1)
+    (rw (n .0, c .as-field .ensures), n .1)
 
 pub size-at-spec : {M : Type 1} → statement M
 size-at-spec =

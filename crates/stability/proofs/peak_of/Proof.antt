@@ -8,8 +8,8 @@ use native.Mathlib.Omega.{arith}
 use lib.ListN.{length, getD}
 use lib.IntN.{ℤ, pos}
 use Rattle.sign.proofs.Signs.{machine-under, machine-most}
-use Rattle.stability.specs.Verdict.{peak}
-use Rattle.stability.proofs.Peaks.{Peak, peak-start, peak-keep, peak-move, peak-is, peak-unique}
+use Rattle.stability.specs.Verdict.{Peak, peak}
+use Rattle.stability.proofs.Peaks.{peak-start, peak-keep, peak-move, peak-is, peak-unique}
 use Rattle.stability.proofs.peak_of.Statement.{statement}
 use Rattle.stability.proofs.peak_of.Tie as tie
 
