@@ -24,7 +24,7 @@ use Rattle.judging.specs.Judge.{judgedOf, judgedCode}
 use Rattle.judging.proofs.Codes.{sound-codes}
 use Rattle.operations.proofs.Codes.{ship-codes, load-codes, column-codes, hold-codes, drop-codes}
 use Rattle.panel.specs.Step.{Outcome, verdictGiven, stepOf}
-use Rattle.panel.proofs.Codes.{codesOf, right-by}
+use Rattle.panel.proofs.Codes.{codesOf, requestCodes, right-by, request-code}
 use Rattle.demands.specs.Codes.{request, Asks, EveryLine, ByOperation}
 use Rattle.demands.specs.Demands.{CodesByOperation}
 use Rattle.demands.proofs.Asked.{early, requested, short, at-reading, hears, heard, asks, code-of}
@@ -36,18 +36,6 @@ verdict-code c (Refused code) = refl
 verdict-code c (Given v) = refl
 
 -- ---- every line
--- no request has a code that is given before it is looked at
-late : (k : Kind) → all (λ m. not (isOneOf early m)) (codesOf k) ≡ true
-unfolding all isOneOf
-late (ShipLine s) = refl
-late ColumnLine = refl
-late (LoadLine l) = refl
-late (HoldLine n) = refl
-late (DropLine n) = refl
-late JudgeLine = refl
-late ClearLine = refl
-late NoShape = refl
-
 -- 14 is given where a line has no shape alone
 only-no-shape : (k : Kind) → isOneOf (codesOf k) 14 ≡ true → k ≡ NoShape
 unfolding isOneOf
@@ -60,6 +48,7 @@ only-no-shape JudgeLine e = cc
 only-no-shape ClearLine e = cc
 only-no-shape NoShape e = cc
 
+-- no request has a code that is given before it is looked at
 apart : (ms : List ℕ) (n : ℕ) → all (λ m. not (isOneOf early m)) ms ≡ true → isOneOf ms n ≡ true → isOneOf early n ≡ false
 unfolding all isOneOf
 apart [] n a e = clash e
@@ -83,10 +72,11 @@ module _ (c : Condition) (line : List ℕ) (lent : ℕ) where
 
     -- the code is that of the tests, or none that they give
     by-reading : (r : Reading) → readingOf line ≡ r → (n : ℕ) → isOneOf early n ≡ true → given ≡ n → readingCode r ≡ n
+    unfolding all isOneOf
     by-reading Sound e n t g =
         let o = hears c line lent room e .outcome in
-        let l = right-by c (request line .kind) (request line .hold) (request line .column) .listed in
-        let a = apart (codesOf (request line .kind)) (requested c line .code) (late (request line .kind)) l in
+        let l = request-code c (request line .kind) (request line .hold) (request line .column) in
+        let a = apart requestCodes (requested c line .code) refl l in
         let b : isOneOf early n ≡ false = rw (sym (ap (λ (o : Outcome). o .code) o) ∙ g) at a in
         clash (sym b ∙ t)
     by-reading TooLong e n t g = sym (to-reading TooLong e (omega arith)) ∙ g

@@ -2,17 +2,20 @@
 use mathlib.Core.Path.{_≡_, refl, ap, _∙_}
 use mathlib.Core.List.{List, [], _∷_, _++_}
 use Prim.Native.Nat.{ℕ}
+use Rattle.whole.specs.Lists.{all, isOneOf}
+use Rattle.whole.proofs.Lists.{among}
 use Rattle.request.specs.declared.Kind.the-variants.{ClearLine}
 use Rattle.condition.specs.declared.Condition.{Condition}
 use Rattle.condition.specs.Condition.{empty}
 use Rattle.panel.specs.Step.{Outcome, stepOf, Sent, conditionAfter, outcomes}
-use Rattle.panel.proofs.Codes.{right}
+use Rattle.panel.proofs.Codes.{every, right}
 use Rattle.demands.specs.Codes.{request}
-use Rattle.demands.specs.Demands.{CodesArePrinted, RefusalsChangeNothing, ClearStartsAnew}
+use Rattle.demands.specs.Demands.{printed, CodesArePrinted, RefusalsChangeNothing, ClearStartsAnew}
 use Rattle.demands.proofs.Asked.{taken-as}
 
 pub codes-are-printed : CodesArePrinted
-codes-are-printed c line lent = right c line lent .listed
+unfolding all isOneOf
+codes-are-printed c line lent = among every printed (stepOf c line lent .code) refl (right c line lent .listed)
 
 pub refusals-change-nothing : RefusalsChangeNothing
 refusals-change-nothing c line lent = right c line lent .unchanged

@@ -118,6 +118,7 @@ pub fn drop_code(c: Condition, n: u32) -> u8
 //
 // The condition is large, and is copied wherever a function gives it: a line that is turned down never comes here.
 
+// A new ship replaces the former one.
 pub fn with_ship(c: Condition, s: Ship) -> Condition
     ensures { λ r. ⌜ r ≡ withShip c s ⌝ }
 {
@@ -127,6 +128,7 @@ pub fn with_ship(c: Condition, s: Ship) -> Condition
     after
 }
 
+// A new load replaces the former one.
 pub fn with_load(c: Condition, l: Load) -> Condition
     ensures { λ r. ⌜ r ≡ withLoad c l ⌝ }
 {
@@ -136,6 +138,7 @@ pub fn with_load(c: Condition, l: Load) -> Condition
     after
 }
 
+// One column more, where a place is left for it.
 pub fn with_column(c: Condition, k: Column) -> Condition
     ensures { λ r. ⌜ r ≡ cond (leb 20 (length (held (c .columns)))) c (withColumns c (withColumn (c .columns) k)) ⌝ }
 {
@@ -148,6 +151,7 @@ pub fn with_column(c: Condition, k: Column) -> Condition
     after
 }
 
+// The hold in its place, where there is one; a drop puts an empty one there.
 pub fn with_hold(c: Condition, n: u32, h: Hold) -> Condition
     ensures { λ r. ⌜ r ≡ cond (placeLimits n) (withHold c n h) c ⌝ }
 {

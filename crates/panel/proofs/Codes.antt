@@ -38,12 +38,11 @@ codesOf JudgeLine = 0 ∷ 30 ∷ 31 ∷ 32 ∷ 33 ∷ 34 ∷ 40 ∷ 41 ∷ 42 �
 codesOf ClearLine = 0 ∷ []
 codesOf NoShape = 14 ∷ []
 
--- and of every line
-abbrev every : List ℕ
-every =
-    0 ∷ 10 ∷ 11 ∷ 12 ∷ 13 ∷ 14 ∷ 15 ∷ 20 ∷ 21 ∷ 22 ∷ 23 ∷ 24 ∷ 30 ∷ 31 ∷ 32 ∷ 33 ∷ 34 ∷ 40 ∷ 41 ∷ 42 ∷ 43 ∷ []
+-- and of all requests
+abbrev pub requestCodes : List ℕ
+requestCodes = 0 ∷ 14 ∷ 20 ∷ 21 ∷ 22 ∷ 23 ∷ 24 ∷ 30 ∷ 31 ∷ 32 ∷ 33 ∷ 34 ∷ 40 ∷ 41 ∷ 42 ∷ 43 ∷ []
 
-codes-listed : (k : Kind) → all (isOneOf every) (codesOf k) ≡ true
+codes-listed : (k : Kind) → all (isOneOf requestCodes) (codesOf k) ≡ true
 unfolding all isOneOf
 codes-listed (ShipLine s) = refl
 codes-listed ColumnLine = refl
@@ -53,6 +52,10 @@ codes-listed (DropLine n) = refl
 codes-listed JudgeLine = refl
 codes-listed ClearLine = refl
 codes-listed NoShape = refl
+
+-- of every line
+abbrev pub every : List ℕ
+every = 10 ∷ 11 ∷ 12 ∷ 13 ∷ 15 ∷ requestCodes
 
 -- what an outcome does to the condition
 abbrev pub changed : Outcome → Change
@@ -85,11 +88,16 @@ module _ (c : Condition) where
   right-by ClearLine h col = right-taken c _ refl
   right-by NoShape h col = right-same c _ refl
 
+  pub request-code : (k : Kind) (h : Hold) (col : Column) → isOneOf requestCodes (outcomeBy c k h col .code) ≡ true
+  request-code k h col = among (codesOf k) requestCodes _ (codes-listed k) (right-by k h col .listed)
+
   right-request : (r : Request) → Right every c (changed (outcomeOf c r))
-  unfolding outcomeOf
+  unfolding outcomeOf all isOneOf
   right-request r =
-      let t = right-by (r .kind) (r .hold) (r .column) in
-      record { listed = among (codesOf (r .kind)) every _ (codes-listed (r .kind)) (t .listed); unchanged = t .unchanged }
+      record {
+        listed = among requestCodes every (outcomeBy c (r .kind) (r .hold) (r .column) .code) refl (request-code (r .kind) (r .hold) (r .column));
+        unchanged = right-by (r .kind) (r .hold) (r .column) .unchanged;
+      }
 
   module _ (line : List ℕ) where
     right-after : (r : Reading) → Right every c (changed (outcomeAfter c line r))

@@ -1,4 +1,4 @@
--- `with_column`
+-- `with_column`: one column more, where a place is left for it.
 use mathlib.Core.Path.{_≡_, refl}
 use native.Mathlib.Omega.{arith}
 use lib.ListN.{length, length-take}

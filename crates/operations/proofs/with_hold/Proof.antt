@@ -1,4 +1,4 @@
--- `with_hold`
+-- `with_hold`: the hold in its place, where there is one; a drop puts an empty one there.
 use mathlib.Core.Path.{refl, sym, _∙_}
 use native.Mathlib.Omega.{arith}
 use borrow.Author.Tests.{not-true, not-false}
