@@ -27,13 +27,10 @@ returns-2 c =
     let f2 : SFits w64 (v .diff) = search needs in
     let m = c .before .before .before .before .before .before in
     let e = m .judgement-code .ensures in
+    let w = rw (e, toZ-ofZ {w = w64} {z = v .gm} f1, toZ-ofZ {w = w64} {z = v .diff} f2) at (c .before .before .verdict .ensures) in
     let k = m .before .before in
     rw (sym (k .before .before .judge .ensures) ∙ k .j2 .given .1)
-    (record {
-      coded = e;
-      long = c .before .before .verdict .ensures .0 ∙ rw (e, toZ-ofZ {w = w64} {z = v .gm} f1, toZ-ofZ {w = w64} {z = v .diff} f2);
-      written = c .before .before .verdict .ensures .1 ∙ rw (e, toZ-ofZ {w = w64} {z = v .gm} f1, toZ-ofZ {w = w64} {z = v .diff} f2);
-    })
+    (record { coded = e; long = w .0; written = w .1 })
 
 pub give-verdict-spec : {M : Type 1} → statement M
 give-verdict-spec =
