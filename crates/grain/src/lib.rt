@@ -72,7 +72,8 @@ const DEPTHS: [u64; 16] = [
 // 500 times the standard depth at the distance x.
 fn standard_depth(x: u64) -> u64
     requires { ⌜ x < 65536 ⌝ }
-    ensures { λ r. ⌜ (r ≡ standardDepth x) × (r < 2 ^ 22) ⌝ }
+    ensures { λ r. ⌜ r ≡ standardDepth x ⌝ }
+    ensures { λ r. ⌜ r < 2 ^ 22 ⌝ }
 {
     if x < 500 {
         return 500 * 570;
@@ -95,14 +96,16 @@ fn greater(a: u64, b: u64) -> u64
 // A wing's depth, rounded up once.
 fn wing_depth(dist: u64, girder: u64) -> u64
     requires { ⌜ (dist < 65536) × (girder < 65536) ⌝ }
-    ensures { λ r. ⌜ (r ≡ wingDepth dist girder) × (r < 2 ^ 17) ⌝ }
+    ensures { λ r. ⌜ r ≡ wingDepth dist girder ⌝ }
+    ensures { λ r. ⌜ r < 2 ^ 17 ⌝ }
 {
     let raised = standard_depth(dist) + 375 * girder;
     whole::divide_up(greater(500 * 100, choice::beyond(raised, 375 * 600)), 500)
 }
 
 fn depth_of(cell: Cell) -> u64
-    ensures { λ r. ⌜ (r ≡ cellDepth cell) × (r < 2 ^ 17) ⌝ }
+    ensures { λ r. ⌜ r ≡ cellDepth cell ⌝ }
+    ensures { λ r. ⌜ r < 2 ^ 17 ⌝ }
 {
     match cell {
         Cell::Wing {
@@ -168,7 +171,8 @@ fn divide_down(n: u64, d: u64) -> u64
 // The first moment of an area kept in a cell of width w, from its high boundary.
 fn first_moment(w: u64, area: u64) -> u64
     requires { ⌜ (w ≤ 40000) × (area ≤ 200000000) ⌝ }
-    ensures { λ r. ⌜ (r ≡ firstMoment (kept w area)) × (r < 2 ^ 43) ⌝ }
+    ensures { λ r. ⌜ r ≡ firstMoment (kept w area) ⌝ }
+    ensures { λ r. ⌜ r < 2 ^ 43 ⌝ }
 {
     if 200000 * area <= SLOPE_15 * (w * w) {
         divide_down(area * base_of(area), 3)
@@ -294,7 +298,8 @@ fn parts_moment(h: Hold) -> Shifted
 }
 
 fn percentage_of(mode: Mode) -> u64
-    ensures { λ r. ⌜ (r ≡ percentage mode) × (r ≤ 112) ⌝ }
+    ensures { λ r. ⌜ r ≡ percentage mode ⌝ }
+    ensures { λ r. ⌜ r ≤ 112 ⌝ }
 {
     match mode {
         Mode::Trimmed => 100,

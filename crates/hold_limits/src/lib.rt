@@ -101,7 +101,8 @@ fn width_together(p: Part) -> u32
 }
 
 fn wide(x: u16) -> u32
-    ensures { λ r. ⌜ (r ≡ x) × (r < 65536) ⌝ }
+    ensures { λ r. ⌜ r ≡ x ⌝ }
+    ensures { λ r. ⌜ r < 65536 ⌝ }
 {
     x as u32
 }

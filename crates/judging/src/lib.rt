@@ -80,7 +80,8 @@ fn weights_of(holds: [Hold; 16]) -> Weights
 
 // Gives the column back, for the prover: that it has ten KN is known of a parameter alone.
 fn of_ten(k: Column) -> Column
-    ensures { λ r. ⌜ (r ≡ k) × (length (r .kn) ≡ 10) ⌝ }
+    ensures { λ r. ⌜ r ≡ k ⌝ }
+    ensures { λ r. ⌜ length (r .kn) ≡ 10 ⌝ }
 {
     k
 }

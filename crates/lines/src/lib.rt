@@ -38,7 +38,8 @@ pub enum Told {
 // The place of the next byte 10 from `at` on, or the block's end: four bytes in a turn.
 fn line_end(block: &[u8], at: usize) -> usize
     requires { ⌜ at ≤ length (now block) ⌝ }
-    ensures { λ r. ⌜ (r ≡ at + lineLength (drop at (now (block .entry)))) × (r ≤ length (now (block .entry))) ⌝ }
+    ensures { λ r. ⌜ r ≡ at + lineLength (drop at (now (block .entry))) ⌝ }
+    ensures { λ r. ⌜ r ≤ length (now (block .entry)) ⌝ }
 {
     let mut e = at;
     while 4 <= block.len() - e {
@@ -65,7 +66,8 @@ fn line_end(block: &[u8], at: usize) -> usize
 // The same, byte by byte.
 fn last_end(block: &[u8], at: usize) -> usize
     requires { ⌜ at ≤ length (now block) ⌝ }
-    ensures { λ r. ⌜ (r ≡ at + lineLength (drop at (now (block .entry)))) × (r ≤ length (now (block .entry))) ⌝ }
+    ensures { λ r. ⌜ r ≡ at + lineLength (drop at (now (block .entry))) ⌝ }
+    ensures { λ r. ⌜ r ≤ length (now (block .entry)) ⌝ }
 {
     let mut e = at;
     while e < block.len() {
@@ -80,7 +82,8 @@ fn last_end(block: &[u8], at: usize) -> usize
 // The place behind a byte of the block. Apart, so that the loop over lines knows at once that it is no further than the block's end.
 fn behind(block: &[u8], at: usize) -> usize
     requires { ⌜ at < length (now block) ⌝ }
-    ensures { λ r. ⌜ (r ≡ at + 1) × (r ≤ length (now (block .entry))) ⌝ }
+    ensures { λ r. ⌜ r ≡ at + 1 ⌝ }
+    ensures { λ r. ⌜ r ≤ length (now (block .entry)) ⌝ }
 {
     at + 1
 }
@@ -143,7 +146,8 @@ fn stopped(cond: Condition, left: u64, used: usize, filled: usize, at: usize) ->
 // Keeps of a piece what has room behind the first `used` bytes of the line, 2,001 in all: how many are kept then.
 fn keep(line: &mut [u8], used: usize, piece: &[u8]) -> usize
     requires { ⌜ (used ≤ 2001) × (length (now line) ≡ 2002) ⌝ }
-    ensures { λ r. ⌜ (take r (now (line .exit)) ≡ take 2001 (take used (now (line .entry)) ++ now (piece .entry))) × (r ≤ 2001) ⌝ }
+    ensures { λ r. ⌜ take r (now (line .exit)) ≡ take 2001 (take used (now (line .entry)) ++ now (piece .entry)) ⌝ }
+    ensures { λ r. ⌜ r ≤ 2001 ⌝ }
 {
     let mut u = used;
     let mut i = 0;

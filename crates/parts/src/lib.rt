@@ -215,7 +215,8 @@ fn slack_at(s: &[u8], at: usize) -> PartItem
 
 // Where no part was read.
 fn no_part_item() -> PartItem
-    ensures { λ r. ⌜ (r .part ≡ noPart) × (r .end ≡ Place.Nowhere) ⌝ }
+    ensures { λ r. ⌜ r .part ≡ noPart ⌝ }
+    ensures { λ r. ⌜ r .end ≡ Place.Nowhere ⌝ }
 {
     PartItem {
         part: record::no_part(),

@@ -9,7 +9,8 @@ ghost use Rattle.reply.specs.Replies.{codedReply, answerReply, refusalRe
 // A text over the front of a buffer.
 fn put(out: &mut [u8], w: &[u8]) -> usize
     requires { ⌜ length (now w) ≤ length (now out) ⌝ }
-    ensures { λ r. ⌜ (r ≡ length (now (w .entry))) × (now (out .exit) ≡ over (now (w .entry)) (now (out .entry))) ⌝ }
+    ensures { λ r. ⌜ r ≡ length (now (w .entry)) ⌝ }
+    ensures { λ r. ⌜ now (out .exit) ≡ over (now (w .entry)) (now (out .entry)) ⌝ }
 {
     let mut i = 0;
     while i < w.len() {
@@ -22,7 +23,8 @@ fn put(out: &mut [u8], w: &[u8]) -> usize
 // The decimal digits of n, of which there are at most k, over the front of a buffer.
 fn put_digits(out: &mut [u8], n: u64, k: usize) -> usize
     requires { ⌜ length (digits k n) ≤ length (now out) ⌝ }
-    ensures { λ r. ⌜ (r ≡ length (digits k n)) × (now (out .exit) ≡ over (digits k n) (now (out .entry))) ⌝ }
+    ensures { λ r. ⌜ r ≡ length (digits k n) ⌝ }
+    ensures { λ r. ⌜ now (out .exit) ≡ over (digits k n) (now (out .entry)) ⌝ }
 {
     if k == 0 {
         return 0;
@@ -38,7 +40,8 @@ fn put_digits(out: &mut [u8], n: u64, k: usize) -> usize
 
 fn put_decimal(out: &mut [u8], n: u64) -> usize
     requires { ⌜ length (decimal n) ≤ length (now out) ⌝ }
-    ensures { λ r. ⌜ (r ≡ length (decimal n)) × (now (out .exit) ≡ over (decimal n) (now (out .entry))) ⌝ }
+    ensures { λ r. ⌜ r ≡ length (decimal n) ⌝ }
+    ensures { λ r. ⌜ now (out .exit) ≡ over (decimal n) (now (out .entry)) ⌝ }
 {
     put_digits(out, n, 20)
 }
@@ -46,7 +49,8 @@ fn put_decimal(out: &mut [u8], n: u64) -> usize
 // A text behind the `at` bytes that are written already: it gets the part of the buffer that starts there.
 fn append(out: &mut [u8], at: usize, w: &[u8]) -> usize
     requires { ⌜ at + length (now w) ≤ length (now out) ⌝ }
-    ensures { λ r. ⌜ (r ≡ at + length (now (w .entry))) × (now (out .exit) ≡ into at (now (w .entry)) (now (out .entry))) ⌝ }
+    ensures { λ r. ⌜ r ≡ at + length (now (w .entry)) ⌝ }
+    ensures { λ r. ⌜ now (out .exit) ≡ into at (now (w .entry)) (now (out .entry)) ⌝ }
 {
     at + put(&mut out[at..], w)
 }
@@ -54,7 +58,8 @@ fn append(out: &mut [u8], at: usize, w: &[u8]) -> usize
 // A figure that is not below zero, likewise.
 fn append_decimal(out: &mut [u8], at: usize, n: u64) -> usize
     requires { ⌜ at + length (decimal n) ≤ length (now out) ⌝ }
-    ensures { λ r. ⌜ (r ≡ at + length (decimal n)) × (now (out .exit) ≡ into at (decimal n) (now (out .entry))) ⌝ }
+    ensures { λ r. ⌜ r ≡ at + length (decimal n) ⌝ }
+    ensures { λ r. ⌜ now (out .exit) ≡ into at (decimal n) (now (out .entry)) ⌝ }
 {
     at + put_decimal(&mut out[at..], n)
 }
@@ -62,7 +67,8 @@ fn append_decimal(out: &mut [u8], at: usize, n: u64) -> usize
 // A code, in two digits, likewise.
 fn append_code(out: &mut [u8], at: usize, code: u8) -> usize
     requires { ⌜ at + 2 ≤ length (now out) ⌝ }
-    ensures { λ r. ⌜ (r ≡ at + 2) × (now (out .exit) ≡ into at (twoDigits code) (now (out .entry))) ⌝ }
+    ensures { λ r. ⌜ r ≡ at + 2 ⌝ }
+    ensures { λ r. ⌜ now (out .exit) ≡ into at (twoDigits code) (now (out .entry)) ⌝ }
 {
     let text = [b'0' + code / 10, b'0' + code % 10];
     append(out, at, &text)
@@ -71,7 +77,8 @@ fn append_code(out: &mut [u8], at: usize, code: u8) -> usize
 // A figure, likewise; below zero it carries a minus sign.
 fn append_figure(out: &mut [u8], at: usize, z: i64) -> usize
     requires { ⌜ at + length (figure z) ≤ length (now out) ⌝ }
-    ensures { λ r. ⌜ (r ≡ at + length (figure z)) × (now (out .exit) ≡ into at (figure z) (now (out .entry))) ⌝ }
+    ensures { λ r. ⌜ r ≡ at + length (figure z) ⌝ }
+    ensures { λ r. ⌜ now (out .exit) ≡ into at (figure z) (now (out .entry)) ⌝ }
 {
     if sign::is_below(z) {
         let a = append(out, at, b"-");
@@ -84,7 +91,8 @@ fn append_figure(out: &mut [u8], at: usize, z: i64) -> usize
 // A head, a code, the closing bracket and a newline.
 fn coded(out: &mut [u8], head: &[u8], code: u8) -> usize
     requires { ⌜ length (now head) + 4 ≤ length (now out) ⌝ }
-    ensures { λ r. ⌜ (r ≡ length (codedReply (now (head .entry)) code)) × (now (out .exit) ≡ over (codedReply (now (head .entry)) code) (now (out .entry))) ⌝ }
+    ensures { λ r. ⌜ r ≡ length (codedReply (now (head .entry)) code) ⌝ }
+    ensures { λ r. ⌜ now (out .exit) ≡ over (codedReply (now (head .entry)) code) (now (out .entry)) ⌝ }
 {
     let a = put(out, head);
     let b = append_code(out, a, code);
@@ -94,7 +102,8 @@ fn coded(out: &mut [u8], head: &[u8], code: u8) -> usize
 // `(answer CC)`.
 pub fn answer(out: &mut [u8], code: u8) -> usize
     requires { ⌜ 96 ≤ length (now out) ⌝ }
-    ensures { λ r. ⌜ (r ≡ length (answerReply code)) × (now (out .exit) ≡ over (answerReply code) (now (out .entry))) ⌝ }
+    ensures { λ r. ⌜ r ≡ length (answerReply code) ⌝ }
+    ensures { λ r. ⌜ now (out .exit) ≡ over (answerReply code) (now (out .entry)) ⌝ }
 {
     coded(out, b"(answer ", code)
 }
@@ -102,7 +111,8 @@ pub fn answer(out: &mut [u8], code: u8) -> usize
 // `(verdict CC)`.
 pub fn refusal(out: &mut [u8], code: u8) -> usize
     requires { ⌜ 96 ≤ length (now out) ⌝ }
-    ensures { λ r. ⌜ (r ≡ length (refusalReply code)) × (now (out .exit) ≡ over (refusalReply code) (now (out .entry))) ⌝ }
+    ensures { λ r. ⌜ r ≡ length (refusalReply code) ⌝ }
+    ensures { λ r. ⌜ now (out .exit) ≡ over (refusalReply code) (now (out .entry)) ⌝ }
 {
     coded(out, b"(verdict ", code)
 }
@@ -110,7 +120,8 @@ pub fn refusal(out: &mut [u8], code: u8) -> usize
 // A space and a figure behind what is written.
 fn append_field(out: &mut [u8], at: usize, z: i64) -> usize
     requires { ⌜ at + 1 + length (figure z) ≤ length (now out) ⌝ }
-    ensures { λ r. ⌜ (r ≡ at + 1 + length (figure z)) × (now (out .exit) ≡ into at (32 ∷ figure z) (now (out .entry))) ⌝ }
+    ensures { λ r. ⌜ r ≡ at + 1 + length (figure z) ⌝ }
+    ensures { λ r. ⌜ now (out .exit) ≡ into at (32 ∷ figure z) (now (out .entry)) ⌝ }
 {
     let a = append(out, at, b" ");
     append_figure(out, a, z)
@@ -119,7 +130,8 @@ fn append_field(out: &mut [u8], at: usize, z: i64) -> usize
 // A space and a figure that is not below zero, behind what is written.
 fn append_count(out: &mut [u8], at: usize, n: u64) -> usize
     requires { ⌜ at + 1 + length (decimal n) ≤ length (now out) ⌝ }
-    ensures { λ r. ⌜ (r ≡ at + 1 + length (decimal n)) × (now (out .exit) ≡ into at (32 ∷ decimal n) (now (out .entry))) ⌝ }
+    ensures { λ r. ⌜ r ≡ at + 1 + length (decimal n) ⌝ }
+    ensures { λ r. ⌜ now (out .exit) ≡ into at (32 ∷ decimal n) (now (out .entry)) ⌝ }
 {
     let a = append(out, at, b" ");
     append_decimal(out, a, n)
@@ -128,7 +140,8 @@ fn append_count(out: &mut [u8], at: usize, n: u64) -> usize
 // `(verdict CC GM DIFF UPPER AREA)`.
 pub fn verdict(out: &mut [u8], code: u8, gm: i64, diff: i64, upper: u64, area: u64) -> usize
     requires { ⌜ (96 ≤ length (now out)) × (upper ≤ 4000) ⌝ }
-    ensures { λ r. ⌜ (r ≡ length (verdictReply code gm diff upper area)) × (now (out .exit) ≡ over (verdictReply code gm diff upper area) (now (out .entry))) ⌝ }
+    ensures { λ r. ⌜ r ≡ length (verdictReply code gm diff upper area) ⌝ }
+    ensures { λ r. ⌜ now (out .exit) ≡ over (verdictReply code gm diff upper area) (now (out .entry)) ⌝ }
 {
     let a = put(out, b"(verdict ");
     let b = append_code(out, a, code);

@@ -88,7 +88,8 @@ pub fn plain(kind: Kind) -> Request
 
 // Where no form was read.
 fn no_form() -> Form
-    ensures { λ r. ⌜ (r .request ≡ Shape·plain Kind.NoShape) × (r .end ≡ Place.Nowhere) ⌝ }
+    ensures { λ r. ⌜ r .request ≡ Shape·plain Kind.NoShape ⌝ }
+    ensures { λ r. ⌜ r .end ≡ Place.Nowhere ⌝ }
 {
     Form {
         request: plain(Kind::NoShape),

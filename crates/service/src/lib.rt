@@ -55,7 +55,9 @@ fn fetch(block: &mut [u8], most: usize) -> usize
 
 // Nothing read, nothing taken.
 fn start(left: u64) -> Feed
-    ensures { λ r. ⌜ Stands left [] r [] [] × (r .used ≡ 0) × (r .filled ≡ 0) ⌝ }
+    ensures { λ r. ⌜ Stands left [] r [] [] ⌝ }
+    ensures { λ r. ⌜ r .used ≡ 0 ⌝ }
+    ensures { λ r. ⌜ r .filled ≡ 0 ⌝ }
 {
     Feed {
         cond: condition::empty_condition(),

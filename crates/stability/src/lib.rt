@@ -108,7 +108,8 @@ fn left_over(righting: i64, heeling: u64) -> i64
 // A thousand times the value at `past` of `span` on the line from x to y: from mm to micrometres.
 fn arm_over(span: u64, past: u64, x: u64, y: u64) -> u64
     requires { ⌜ (past ≤ span) × (span ≤ 400000) × (x < 65536) × (y < 65536) ⌝ }
-    ensures { λ r. ⌜ (r ≡ 1000 * onLine span past x y) × (r ≤ 2 ^ 45) ⌝ }
+    ensures { λ r. ⌜ r ≡ 1000 * onLine span past x y ⌝ }
+    ensures { λ r. ⌜ r ≤ 2 ^ 45 ⌝ }
 {
     1000 * whole::on_line(span, past, x, y)
 }
@@ -163,7 +164,9 @@ fn heels(n: u64, d: u64) -> u64
 // The righting arm at the k-th angle: KN rounded down less fluid KG times the sine rounded up.
 fn righting_at(b: Basis, k: usize) -> i64
     requires { ⌜ Judgeable b × (k < 10) ⌝ }
-    ensures { λ r. ⌜ (r ≡ rightingArm b k) × (plus r ≤ 2 ^ 26) × (minus r ≤ 2 ^ 26) ⌝ }
+    ensures { λ r. ⌜ r ≡ rightingArm b k ⌝ }
+    ensures { λ r. ⌜ plus r ≤ 2 ^ 26 ⌝ }
+    ensures { λ r. ⌜ minus r ≤ 2 ^ 26 ⌝ }
 {
     let low = b.low;
     let high = b.high;
@@ -178,7 +181,8 @@ fn righting_at(b: Basis, k: usize) -> i64
 // The heeling arm at the k-th angle, rounded up.
 fn heeling_at(b: Basis, k: usize) -> u64
     requires { ⌜ Judgeable b × (k < 10) ⌝ }
-    ensures { λ r. ⌜ (r ≡ heelingArm b k) × (r ≤ 2 ^ 34) ⌝ }
+    ensures { λ r. ⌜ r ≡ heelingArm b k ⌝ }
+    ensures { λ r. ⌜ r ≤ 2 ^ 34 ⌝ }
 {
     let load = b.load;
     heels(
@@ -290,7 +294,8 @@ fn fails_among(heel: u64, upper: u64, ds: [i64; 10]) -> bool
 // How far the two ends of the first t of h lie above zero, together, at h times their size.
 fn ends_above(h: u64, t: u64, p1: u64, m1: u64, p2: u64, m2: u64) -> u64
     requires { ⌜ EndsFit h t p1 m1 p2 m2 ⌝ }
-    ensures { λ r. ⌜ (r ≡ endsAbove h t p1 m1 p2 m2) × (r ≤ h * p1 + onLine h t p1 p2) ⌝ }
+    ensures { λ r. ⌜ r ≡ endsAbove h t p1 m1 p2 m2 ⌝ }
+    ensures { λ r. ⌜ r ≤ h * p1 + onLine h t p1 p2 ⌝ }
 {
     let start = choice::beyond(h * p1, h * m1);
     start + choice::beyond(whole::on_line(h, t, p1, p2), whole::on_line(h, t, m1, m2))
@@ -348,7 +353,8 @@ fn full_area(h: u64, d: i64, e: i64) -> u64
 // The stretch behind the k-th angle, up to UPPER.
 fn stretch_area(ds: [i64; 10], upper: u64, k: usize) -> u64
     requires { ⌜ Bounded ds × (k < 9) ⌝ }
-    ensures { λ r. ⌜ (r ≡ stretchArea (plusAt ds) (minusAt ds) upper k) × (r ≤ 2 ^ 36) ⌝ }
+    ensures { λ r. ⌜ r ≡ stretchArea (plusAt ds) (minusAt ds) upper k ⌝ }
+    ensures { λ r. ⌜ r ≤ 2 ^ 36 ⌝ }
 {
     let from = angle_at(k);
     if upper <= from {
@@ -378,7 +384,8 @@ fn area_to(ds: [i64; 10], upper: u64) -> u64
 }
 
 fn heel_limit(s: Ship) -> u64
-    ensures { λ r. ⌜ (r ≡ heelLimit s) × (r ≤ 1200) ⌝ }
+    ensures { λ r. ⌜ r ≡ heelLimit s ⌝ }
+    ensures { λ r. ⌜ r ≤ 1200 ⌝ }
 {
     let rule = s.rule;
     match rule {

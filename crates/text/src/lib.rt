@@ -91,7 +91,8 @@ fn class_of(b: u8) -> u8
 // The place behind the bytes of the classes asked for that stand at `at`.
 fn scan(s: &[u8], at: usize, asked: u8) -> usize
     requires { ⌜ at ≤ length (now s) ⌝ }
-    ensures { λ r. ⌜ (r ≡ at + prefix (ofClass asked) (drop at (now (s .entry)))) × (r ≤ length (now (s .entry))) ⌝ }
+    ensures { λ r. ⌜ r ≡ at + prefix (ofClass asked) (drop at (now (s .entry))) ⌝ }
+    ensures { λ r. ⌜ r ≤ length (now (s .entry)) ⌝ }
 {
     let mut i = at;
     while i < s.len() {

@@ -25,11 +25,11 @@ loop-holds c =
       blockLong = sym (c .before .before .large-buffer .ensures);
       lineLong = search needs;
       outLong = sym (c .before .large-buffer2 .ensures);
-      used = omega (arith, s .ensures .1);
-      waits = omega (arith, s .ensures .2);
+      used = omega (arith, s .ensures .1 .0);
+      waits = omega (arith, s .ensures .1 .1);
       came = omega arith;
-      written = λ e. s .ensures .2;
-      goes = λ e. serving-first (a .max-lines) (a .max-bytes) (s .result) _ _ (s .ensures .0) (s .ensures .1) (s .ensures .2);
+      written = λ e. s .ensures .1 .1;
+      goes = λ e. serving-first (a .max-lines) (a .max-bytes) (s .result) _ _ (s .ensures .0) (s .ensures .1 .0) (s .ensures .1 .1);
       stops = λ e. not-both true refl e;
     }
 

@@ -71,7 +71,7 @@ returns c =
     let kg : c .before .divide-up .result ≡ kgArm q k = rw (c .before .divide-up .ensures, r .fluid, c .before .before .before .sine-at .ensures) refl in
     let e = toZ-ofZ (sfits-of (c .difference .ok)) ∙ c .difference .ensures ∙ ap₂ subℕ kn kg in
     let z = sub-reads (knArm q k) (kgArm q k) in
-    (e, omega (arith, ap plus e, z .pluses, kn-le q j k (s .pre .1)), omega (arith, ap minus e, z .minuses, kg-le q j k (s .pre .1)))
+    (e, (omega (arith, ap plus e, z .pluses, kn-le q j k (s .pre .1)), omega (arith, ap minus e, z .minuses, kg-le q j k (s .pre .1))))
 
 pub righting-at-spec : {M : Type 1} → statement M
 righting-at-spec =
