@@ -1,6 +1,6 @@
 -- The condition at the start holds nothing.
 use mathlib.Core.Path.{refl, ap}
-use Prim.Native.Nat.{ℕ, _-_}
+use Prim.Native.Nat.{_-_}
 use native.Mathlib.Omega.{arith}
 use lib.ListN.{getD-replicate}
 use Rattle.record.specs.declared.Hold.{Hold}

@@ -9,7 +9,7 @@ use Rattle.record.specs.Filler.{noHold}
 use Rattle.columns.specs.Columns.{inOrder}
 use Rattle.condition.specs.declared.Condition.{Condition}
 use Rattle.condition.specs.Condition.{empty, isHeld}
-use Rattle.judging.proofs.Judging.{holds-sound, Sound}
+use Rattle.judging.proofs.Judging.{holds-sound, LimitsMet}
 use Rattle.operations.proofs.Effects.{HoldPassed, ship-passed, load-passed, hold-passed}
 use Rattle.demands.specs.Within.{Within}
 use Rattle.demands.proofs.Sequence.{taken-order}
@@ -18,7 +18,7 @@ module _ (c : Condition) (w : Within c) where
   pub hold-sound : (n : ℕ) → n < 16 → isHeld (getD (c .holds) n noHold) ≡ true → HoldPassed (n + 1) (getD (c .holds) n noHold)
   hold-sound n p e = hold-passed empty (n + 1) (getD (c .holds) n noHold) (w .holds n p e)
 
-  pub within-sound : Sound c
+  pub within-sound : LimitsMet c
   unfolding inOrder
   within-sound =
       record {

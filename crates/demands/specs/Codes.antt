@@ -27,13 +27,13 @@ abbrev pub request : List ℕ → Request
 request line = requestOf (tokens line)
 
 -- none of 10 to 13 applies
-abbrev pub Sound : List ℕ → Type 0
-Sound line = (length line ≤ 2000) × AllAllowed line × OneForm 4 line × (NoNumber line → ⊥)
+abbrev pub SoundLine : List ℕ → Type 0
+SoundLine line = (length line ≤ 2000) × AllAllowed line × OneForm 4 line × (NoNumber line → ⊥)
 
 -- a line with room for its reply, to which none of 10 to 13 applies, asks for what its form says
 pub record Asks (line : List ℕ) (lent : ℕ) (kind : Kind) : Type 0 where
   pub room : 96 ≤ lent
-  pub sound : Sound line
+  pub sound : SoundLine line
   pub asked : request line .kind ≡ kind
 
 -- ---- Every line: 15, 10, 11, 12, 13

@@ -15,11 +15,11 @@ use Rattle.condition.specs.Condition.{empty}
 use Rattle.panel.specs.Step.{Outcome, Sent, conditionAfter, outcomes}
 
 -- lines sent with a buffer of 96 bytes, and the replies to them
-abbrev pub sent : List String → List Sent
-sent ls = map (λ (s : String). record { line = bytes s; lent = 96 }) ls
+abbrev pub sentWith96 : List String → List Sent
+sentWith96 ls = map (λ (s : String). record { line = bytes s; lent = 96 }) ls
 
 abbrev pub replies : List String → List (List ℕ)
-replies ls = map (λ (o : Outcome). o .reply) (outcomes empty (sent ls))
+replies ls = map (λ (o : Outcome). o .reply) (outcomes empty (sentWith96 ls))
 
 -- document 01's whole input, a drop, a clear and a judge behind it
 abbrev pub first : List String
@@ -52,7 +52,7 @@ FirstRun =
     ∷ "(answer 00)\n"
     ∷ "(verdict 30)\n"
     ∷ []))
-    × (map weightMoment (take 2 (conditionAfter empty (sent (take 6 first)) .holds)) ≡ 118548 ∷ 601653 ∷ [])
+    × (map weightMoment (take 2 (conditionAfter empty (sentWith96 (take 6 first)) .holds)) ≡ 118548 ∷ 601653 ∷ [])
 
 abbrev pub second : List String
 second =

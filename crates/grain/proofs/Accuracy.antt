@@ -1,11 +1,11 @@
 -- Demand 2: a trimmed section's moment is never below the exact value, and exceeds it by less than a third of its void area plus
 -- its number of cells plus one.
-use mathlib.Core.Path.{_≡_, sym, ap, _∙_}
+use mathlib.Core.Path.{_≡_, ap}
 use mathlib.Core.Bool.{cond}
 use mathlib.Core.List.{List, [], _∷_}
 use Prim.Native.Nat.{ℕ, suc, _+_, _*_, _-_, _/_, _≤_, _<_}
 use native.Mathlib.Omega.{arith}
-use native.Mathlib.Nat.{mul-le-mul, mul-le-mul-left, mul-lt-mul-of-pos-left, lt-of-not-le, div-mul-le-self, lt-div-mul-add, mul-pos, mul-sub, div-lt-iff-lt-mul}
+use native.Mathlib.Nat.{mul-le-mul, mul-le-mul-left, mul-lt-mul-of-pos-left, lt-of-not-le, div-mul-le-self, lt-div-mul-add, mul-pos, div-lt-iff-lt-mul}
 use native.Mathlib.Decide.{decLe}
 use lib.Dec.{leb}
 use lib.ListN.{length, getD}
@@ -18,10 +18,10 @@ use Rattle.record.specs.Held.{cellWidth}
 use Rattle.grain.specs.Depth.{cellArea}
 use Rattle.grain.specs.Section.{Kept, kept, keptOf, base, trapezium, firstMoment, highMoment, oldTwice, sectionMoment}
 use Rattle.grain.specs.Within.{SectionWithin}
-use Rattle.grain.specs.Figures.{total, cell, boundary, FirstMoment}
+use Rattle.grain.specs.Figures.{total, cell, FirstMoment}
 use Rattle.grain.proofs.Sections.{first-triangle, first-trapezium, trapezium-taken, base-is, areas-le, kept-sum, kept-length}
 use Rattle.grain.proofs.Walks.{section-not-negative}
-use Rattle.grain.proofs.Totals.{keptAt, width-at, highs, olds, sum-total}
+use Rattle.grain.proofs.Totals.{keptAt, width-at}
 
 -- ---- the whole base r, and the whole part s of k × base
 abbrev pub Base : (area k r : ℕ) → Type 0

@@ -11,7 +11,7 @@ use lib.Dec.{leb}
 use lib.ListN.{length, getD}
 use borrow.Author.Tests.{leb-true, le-leb}
 use Rattle.whole.specs.Divide.{ceilDiv}
-use Rattle.whole.specs.Lists.{all, sumOf}
+use Rattle.whole.specs.Lists.{sumOf}
 use Rattle.whole.proofs.Lists.{all-at, all-from}
 use Rattle.whole.proofs.Dividing.{ceil-low, ceil-high}
 use Rattle.record.specs.declared.Mode.{Mode}
@@ -32,7 +32,7 @@ use Rattle.grain.specs.Figures.{total, RoundedUp, printedDistances, Stan
 use Rattle.grain.proofs.Depths.{distance-is, below-first, above-last, interpolates}
 use Rattle.grain.proofs.Sections.{most-triangle, most-trapezium, most-taken, first-triangle, first-trapezium, trapezium-taken, base-is, areas-le, kept-sum, kept-length}
 use Rattle.grain.proofs.Walks.{part-within, cells-section}
-use Rattle.grain.proofs.Weights.{HoldWithin, hold-within}
+use Rattle.grain.proofs.Weights.{hold-within}
 use Rattle.grain.proofs.Totals.{total-same, sum-total, keptAt, width-at, kept-at, fits-last, highs, olds}
 use Rattle.grain.proofs.Accuracy.{base-one, made, bounds, firstFrom, firstTo, every-scale}
 

@@ -8,7 +8,7 @@ use native.Mathlib.Nat.{mul-le-mul-left, le-of-lt, lt-of-not-le}
 use native.Mathlib.Decide.{decLe}
 use lib.ListN.{length}
 use borrow.Author.Tests.{le-leb, lt-leb}
-use Rattle.whole.specs.Root.{root, IsRoot}
+use Rattle.whole.specs.Root.{IsRoot}
 use Rattle.whole.specs.Lists.{within, all, sumOf}
 use Rattle.whole.proofs.Lists.{and-true, within-true}
 use Rattle.whole.proofs.Roots.{root-is, root-less}

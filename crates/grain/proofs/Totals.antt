@@ -1,14 +1,12 @@
 -- Sums over a section by place, and the sums of the definitions.
-use mathlib.Core.Path.{_≡_, refl, sym, ap, _∙_}
-use mathlib.Core.Bool.{true}
+use mathlib.Core.Path.{_≡_, refl, ap, _∙_}
 use mathlib.Core.List.{List, [], _∷_}
-use Prim.Native.Nat.{ℕ, zero, suc, _+_, _*_, _-_, _≤_, _<_, min}
+use Prim.Native.Nat.{ℕ, zero, suc, _+_, _*_, _-_, _<_, min}
 use native.Mathlib.Omega.{arith}
 use lib.Dec.{leb}
 use lib.ListN.{length, getD, take}
 use Rattle.whole.specs.Lists.{sumOf}
 use Rattle.record.specs.declared.Cell.{Cell}
-use Rattle.record.specs.declared.Cell.the-variants.{Void}
 use Rattle.record.specs.Held.{cellWidth}
 use Rattle.grain.specs.Depth.{cellArea}
 use Rattle.grain.specs.Section.{Kept, kept, cellMost, keptFrom, fitsFrom, highMoment, oldTwice}

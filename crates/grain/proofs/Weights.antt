@@ -2,13 +2,13 @@
 use mathlib.Core.Path.{_≡_, refl, ap}
 use mathlib.Core.Bool.{Bool, true, false, cond, _&&_}
 use mathlib.Core.List.{List, [], _∷_}
-use Prim.Native.Nat.{ℕ, _+_, _*_, _^_, _≤_, _<_}
+use Prim.Native.Nat.{ℕ, _+_, _*_, _^_, _≤_}
 use native.Mathlib.Omega.{arith}
 use native.Mathlib.Nat.{mul-le-mul, mul-le-mul-left, zero-mul}
 use lib.ListN.{length, length-take}
 use Rattle.whole.specs.Lists.{within, all, sumOf}
 use Rattle.whole.proofs.Lists.{Within, and-true, within-true}
-use Rattle.whole.proofs.Dividing.{ceil-le, ceil-zero}
+use Rattle.whole.proofs.Dividing.{ceil-zero}
 use Rattle.record.specs.declared.Mode.{Mode}
 use Rattle.record.specs.declared.Mode.the-variants.{Trimmed, Voided, Partial}
 use Rattle.record.specs.declared.Cell.{Cell}
@@ -107,11 +107,6 @@ parts-le h w =
 pub hold-le : (h : Hold) → HoldWithin h → holdMoment h ≤ 2 ^ 34
 unfolding holdMoment
 hold-le h w = omega (arith, mul-le-mul (parts-le h w) (percentage-le (h .head .mode)))
-
--- a weight moment is at most 2 to the 36th kg·m
-pub weight-le : (h : Hold) → HoldWithin h → weightMoment h ≤ 2 ^ 36
-unfolding weightMoment
-weight-le h w = ceil-le (10000 * holdMoment h) (h .head .factor) (2 ^ 36) (omega (arith, w .factor .low)) (omega (arith, hold-le h w, mul-le-mul-left (2 ^ 36) (w .factor .low)))
 
 -- ---- an answer taken apart
 pub moment-of : (b : Bool) (x m : ℕ) → Moment m ≡ cond b (Moment x) NoFit → (b ≡ true) × (m ≡ x)

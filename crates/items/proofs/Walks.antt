@@ -2,11 +2,10 @@
 use mathlib.Core.Path.{_≡_, refl, sym, _∙_, ap}
 use mathlib.Core.Bool.{true, false}
 use mathlib.Core.List.{List, [], _∷_, _++_, map, append-nil}
-use Prim.Native.Nat.{ℕ, zero, suc, _+_, _-_, _≤_, _<_}
+use Prim.Native.Nat.{ℕ, zero, suc, _+_, _-_, _<_}
 use native.Mathlib.Omega.{arith}
-use native.Mathlib.Numerals.{add-one}
-use lib.ListN.{length, getD, take, drop, set, replicate, take-append-drop, length-set, length-replicate, List·getD-map}
-use lib.Seq.{append-snoc, take-suc-set, drop-set-lt, drop-drop, length-take-le, getD-take}
+use lib.ListN.{getD, take, drop, List·getD-map}
+use lib.Seq.{append-snoc, getD-take}
 use Rattle.text.specs.Token.{Token, tokens}
 use Rattle.items.specs.declared.Place.{Place}
 use Rattle.items.specs.declared.Place.the-variants.{At, Nowhere}
@@ -101,10 +100,6 @@ module _ {A B : Type 0} (f : A → B) where
   pub carries-none : (p : Parsed A) → carry f p ≡ none → p ≡ none
   carries-none (got a us) e = let z : _≡_ {A = ℕ} 1 0 = ap isGot e in absurd (omega arith)
   carries-none none e = refl
-
-pub then-none : {A R S : Type 0} (f : R → S) (p : Parsed A) → carry f (p andThen λ x us. none) ≡ none
-then-none f (got a us) = refl
-then-none f none = refl
 
 pub ends-next : {A R : Type 0} (mk : A → R) (p : Parsed A) (s : List ℕ) (b : R) (a : A) (e : Place) → Ends p s a e → mk a ≡ b → Ends (p andThen λ x us. got (mk x) us) s b e
 ends-next mk p s b a (At q) h k = (rw (h .0, k), h .1)

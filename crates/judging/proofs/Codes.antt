@@ -25,7 +25,7 @@ use Rattle.judging.specs.declared.Judged.the-variants.{Refused, Given}
 use Rattle.judging.specs.Judge.{weight, basisAt, judgedAt, judgedOf, judgedCode}
 use Rattle.judging.specs.Complete.{Ready}
 use Rattle.judging.specs.Codes.{JudgeCodes, CodesOfJudge}
-use Rattle.judging.proofs.Judging.{Sound, ranges-sound, ready-around, ready-judged}
+use Rattle.judging.proofs.Judging.{LimitsMet, ranges-sound, ready-around, ready-judged}
 
 judgement-other : (j : Judgement) (n : ℕ) → 30 ≤ n → n ≤ 34 → judgementCode j ≡ n → ⊥
 judgement-other Passed n p q e = omega arith
@@ -43,7 +43,7 @@ above-last : (d : ℕ) (ks : List Column) → inOrder ks ≡ true → 2 ≤ leng
 above-last d [] o n h = absurd (omega arith)
 above-last d (a ∷ ks) o n h = above-outside d a ks o h
 
-module _ (c : Condition) (w : Sound c) where
+module _ (c : Condition) (w : LimitsMet c) where
   abbrev columns : List Column
   columns = held (c .columns)
 

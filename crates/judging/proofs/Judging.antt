@@ -59,13 +59,13 @@ in-order (a ∷ b ∷ ks) l r =
     rw (l 0 (omega arith), lt-ltb (a .d) (b .d) (r 0 (omega arith)), more)
 
 -- ---- a condition whose records are within their limits
-pub record Sound (c : Condition) : Type 0 where
+pub record LimitsMet (c : Condition) : Type 0 where
   pub ship : c .shipped ≡ true → shipLimits (c .ship) ≡ true
   pub load : c .loaded ≡ true → loadLimits (c .load) ≡ true
   pub columns : inOrder (held (c .columns)) ≡ true
   pub holds : all soundPlace (c .holds) ≡ true
 
-pub ranges-sound : (c : Condition) → Places c → InRanges c → Sound c
+pub ranges-sound : (c : Condition) → Places c → InRanges c → LimitsMet c
 ranges-sound c p r =
     let ks = held (c .columns) in
     record {
@@ -80,7 +80,7 @@ ranges-sound c p r =
     }
 
 -- judge comes to the columns around D
-module _ (c : Condition) (w : Sound c) (r : Ready c) where
+module _ (c : Condition) (w : LimitsMet c) (r : Ready c) where
   pub ready-around : (i : ℕ) × (columnsAround (c .load .d) (held (c .columns)) ≡ At i)
   ready-around = some-place (c .load .d) (held (c .columns)) _ (r .columns) (r .fromFirst) (r .toLast) refl
 

@@ -6,7 +6,6 @@ use native.Mathlib.Omega.{arith}
 use lib.ListN.{length, take, drop, replicate, length-map}
 use Rattle.text.specs.Token.{Token, tokens}
 use Rattle.record.specs.declared.Cell.{Cell}
-use Rattle.record.specs.declared.Part.{Part}
 use Rattle.record.specs.Filler.{noSlot, padded}
 use Rattle.items.specs.declared.Place.{Place}
 use Rattle.items.specs.declared.Place.the-variants.{At, Nowhere}

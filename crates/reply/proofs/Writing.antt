@@ -16,9 +16,7 @@ use mir.Syntax.{w64}
 use mir.Val.{SFits, toZ, ofZ}
 use mir.Facts.{toZ-ofZ}
 use Rattle.sign.specs.Sign.{plus, minus}
-use Rattle.reply.specs.Written.{over, into, digits, decimal, figure, twoDigits}
-use Rattle.whole.specs.Bytes.{bytes}
-use Rattle.reply.specs.Replies.{tail, codedReply, answerReply, refusalReply, field, count, verdictReply}
+use Rattle.reply.specs.Written.{over, into, digits, decimal, figure}
 
 pub over-none : (l : List ℕ) → over [] l ≡ l
 unfolding over
@@ -179,27 +177,3 @@ lengths gm diff upper area g d u =
 -- a piece behind a space
 pub more-field : (v w l out out′ : List ℕ) (at at′ : ℕ) → Sofar v l out at → (at′ ≡ at + 1 + length w) × (out′ ≡ into at (32 ∷ w) out) → length v + suc (length w) ≤ length l → Sofar (v ++ 32 ∷ w) l out′ at′
 more-field v w l out out′ at at′ s e p = more v (32 ∷ w) l out out′ at at′ s (omega (arith, e .0), e .1) p
-
--- ---- every reply of document 01 fits 96 bytes
-coded-fits : (head : List ℕ) (code : ℕ) → length head ≤ 92 → length (codedReply head code) ≤ 96
-coded-fits head code h =
-    omega (arith, length-append (head ++ twoDigits code) tail, length-append head (twoDigits code))
-
-pub answer-fits : (code : ℕ) → length (answerReply code) ≤ 96
-answer-fits code = coded-fits (bytes "(answer ") code (omega arith)
-
-pub refusal-fits : (code : ℕ) → length (refusalReply code) ≤ 96
-refusal-fits code = coded-fits (bytes "(verdict ") code (omega arith)
-
-pub verdict-fits :
-    (code : ℕ) (gm diff : ℤ) (upper area : ℕ) → Short gm → Short diff → upper ≤ 4000 →
-    length (verdictReply code gm diff upper area) ≤ 96
-unfolding verdictReply
-verdict-fits code gm diff upper area g d u =
-    let v1 : List ℕ = bytes "(verdict " in
-    let v2 = v1 ++ twoDigits code in
-    let v3 = v2 ++ field gm in
-    let v4 = v3 ++ field diff in
-    let v5 = v4 ++ count upper in
-    let v6 = v5 ++ count area in
-    omega (arith, length-append v1 (twoDigits code), length-append v2 (field gm), length-append v3 (field diff), length-append v4 (count upper), length-append v5 (count area), length-append v6 tail, short-figure gm g, short-figure diff d, short-digits 20 upper 3 (omega arith), length-digits 20 area)

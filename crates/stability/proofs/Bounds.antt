@@ -17,7 +17,7 @@ use Rattle.record.specs.declared.Column.{Column}
 use Rattle.record.specs.declared.Load.{Load}
 use Rattle.limits.specs.Limits.{displacement, columnLimits, loadLimits}
 use Rattle.stability.specs.declared.Basis.{Basis}
-use Rattle.stability.specs.Angles.{angle, sine}
+use Rattle.stability.specs.Angles.{angle}
 use Rattle.stability.specs.Arms.{span, past, fluidKG, knArm, kgArm, rightingArm, heelingArm, diff, rightingArms, heelingArms, diffs}
 use Rattle.stability.specs.Walk.{leftOver, leftOvers, Small, Bounded}
 use Rattle.stability.specs.Demand.{Judgeable}

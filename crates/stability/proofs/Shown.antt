@@ -1,14 +1,13 @@
 -- How large a verdict's figures are, so that their digits can be counted.
-use mathlib.Core.Path.{_≡_, sym}
-use Prim.Native.Nat.{ℕ, zero, suc, _+_, _*_, _-_, _/_, _^_, _≤_, _<_}
+use Prim.Native.Nat.{ℕ, zero, suc, _*_, _-_, _/_, _^_, _≤_, _<_}
 use native.Mathlib.Omega.{arith}
-use native.Mathlib.Nat.{mul-le-mul, mul-le-mul-left}
+use native.Mathlib.Nat.{mul-le-mul-left}
 use lib.ListN.{getD}
-use lib.IntN.{ℤ, pos}
+use lib.IntN.{pos}
 use Rattle.sign.specs.Sign.{plus, minus}
 use Rattle.sign.proofs.Signs.{sub-reads}
 use Rattle.whole.specs.Divide.{ceilDiv}
-use Rattle.whole.specs.Line.{roundDown, onLine}
+use Rattle.whole.specs.Line.{roundDown}
 use Rattle.whole.proofs.Dividing.{ceil-le, floor-le}
 use Rattle.whole.proofs.Lines.{line-le}
 use Rattle.record.specs.declared.Ship.{Ship}
@@ -18,7 +17,7 @@ use Rattle.stability.specs.Arms.{span, past, fluidKG, spanKM, gm, diffs}
 use Rattle.stability.specs.Area.{areaOver, counted, plusAt, minusAt}
 use Rattle.stability.specs.Verdict.{stretchOf, diffAt, verdictOf}
 use Rattle.stability.specs.Demand.{Judgeable}
-use Rattle.stability.proofs.Bounds.{column-bounds, span-some, span-le, past-le, fluid-le, diffs-bounded}
+use Rattle.stability.proofs.Bounds.{column-bounds, span-some, past-le, fluid-le, diffs-bounded}
 use Rattle.stability.proofs.Tens.{width-le, width-some, stretch-is}
 use Rattle.stability.proofs.Covers.{heel-is, upper-le}
 use Rattle.stability.proofs.Stretches.{part-le}

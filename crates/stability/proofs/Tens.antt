@@ -16,7 +16,7 @@ use Rattle.whole.proofs.Lists.{tabulate-at}
 use Rattle.stability.specs.declared.Basis.{Basis}
 use Rattle.stability.specs.Angles.{angles, sines, angle, sine, width}
 use Rattle.stability.specs.Arms.{knArm, kgArm, rightingArm, heelingArm, diff, diffs}
-use Rattle.stability.specs.Verdict.{anglesBelow, Stretch, stretchOf, StretchRule}
+use Rattle.stability.specs.Verdict.{anglesBelow, Stretch, StretchRule}
 use Rattle.stability.specs.Exact.{angleOf, sineOf}
 
 -- ---- the tables are the printed ones

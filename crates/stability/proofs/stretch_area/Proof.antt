@@ -1,5 +1,5 @@
 -- `stretch_area`: the stretch behind the k-th angle, up to UPPER.
-use mathlib.Core.Path.{_≡_, refl, _∙_, ap, ap₂}
+use mathlib.Core.Path.{_≡_, refl, _∙_, ap}
 use Prim.Native.Nat.{suc, _+_, _-_, _≤_, _<_}
 use native.Mathlib.Omega.{arith}
 use native.Mathlib.Numerals.{add-one}
@@ -9,7 +9,7 @@ use borrow.Author.Needs.{sfits-of}
 use lib.ListN.{getD}
 use lib.IntN.{pos}
 use Rattle.stability.specs.Angles.{angle, width}
-use Rattle.stability.specs.Walk.{EndBounds, partArea}
+use Rattle.stability.specs.Walk.{partArea}
 use Rattle.stability.proofs.Tens.{angle-rises, width-some, width-le}
 use Rattle.stability.proofs.Stretches.{width-between, end-bounds, nothing-counted, counted-none, counted-whole, counted-part, part-le}
 use borrow.Author.Needs.{needs}
