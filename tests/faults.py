@@ -46,6 +46,51 @@ old: cond (is r "new") (Under NewWord) (cond (is r "old") (Under OldWord)
 new: cond (is r "old") (Under NewWord) (cond (is r "new") (Under OldWord)
 """
 
+ROOM_128 = """
+file: crates/panel/specs/Step.antt
+old: leastRoom = 96
+new: leastRoom = 128
+file: crates/panel/src/lib.rt
+old: const LEAST_ROOM: usize = 96;
+new: const LEAST_ROOM: usize = 128;
+file: crates/panel/proofs/Answers.antt
+old: heard-none : n < 96 →
+new: heard-none : n < 128 →
+old: lt-ltb n 96 p
+new: lt-ltb n 128 p
+old: heard-refused : 96 ≤ n →
+new: heard-refused : 128 ≤ n →
+old: heard-refused p f = rw (le-ltb n 96 p
+new: heard-refused p f = rw (le-ltb n 128 p
+old: heard-request : 96 ≤ n →
+new: heard-request : 128 ≤ n →
+old: heard-request p e = rw (le-ltb n 96 p
+new: heard-request p e = rw (le-ltb n 128 p
+old: asked-by (ltb n 96)
+new: asked-by (ltb n 128)
+file: crates/panel/proofs/Codes.antt
+old: (ltb lent 96)
+new: (ltb lent 128)
+"""
+
+FULL_AT_ONCE = """
+file: crates/columns/specs/Columns.antt
+old: (cond (leb 20 (length ks)) Full
+new: (cond (leb 0 (length ks)) Full
+file: crates/columns/src/lib.rt
+old:     if 20 <= n {
+new:     if 0 <= n {
+file: crates/columns/proofs/Adding.antt
+old: answer-full : 20 ≤ length ks
+new: answer-full : 0 ≤ length ks
+old: le-leb 20 (length ks) h
+new: le-leb 0 (length ks) h
+old: (b : Bool) → length ks < 20 →
+new: (b : Bool) → length ks < 0 →
+old: lt-leb 20 (length ks) h
+new: lt-leb 0 (length ks) h
+"""
+
 # ---- behind an edit: what the laws below a claim repeat of the definition, so that the claim itself is what refuses
 
 FLOOD_IN_LAWS = """
@@ -153,13 +198,15 @@ def edit(crate, name, laws=""):
 
 
 FAULTS = {
-    "codes_10_and_11": Fault("codes 10 and 11 exchanged", [edit("text", "theorem_10_and_11_exchanged")]),
-    "five_deep": Fault("forms nested five deep are taken", [edit("text", "theorem_five_deep")]),
+    "codes_10_and_11": Fault("codes 10 and 11 exchanged", [edit("line_codes", "theorem_10_and_11_exchanged")]),
+    "five_deep": Fault("forms nested five deep are taken", [edit("line_codes", "theorem_five_deep")]),
     "flood_9999": Fault("FLOOD up to 9,999", [edit("limits", "theorem_flood_9999", FLOOD_IN_LAWS)]),
     "dist_and_girder": Fault("DIST and GIRDER of a wing exchanged when read", [("", DIST_AND_GIRDER)]),
     "kg_and_fs": Fault("KG and FS of a load exchanged when read", [("", KG_AND_FS)]),
     "new_and_old": Fault("the words `new` and `old` exchanged", [("", NEW_AND_OLD)]),
     "ship_forgets_load": Fault("a new ship forgets the load", [edit("operations", "theorem_ship_forgets_load")]),
+    "room_128": Fault("15 below 128 bytes", [("", ROOM_128)]),
+    "full_at_once": Fault("23 at once, from the first column on", [("", FULL_AT_ONCE)]),
     "hatch_100": Fault("a hatch's depth OPEN + 100", [edit("grain", "theorem_hatch_100")]),
     "table_2m_470": Fault("the table's entry of 2.0 m 470", [edit("grain", "theorem_table_2m_470")]),
     "120_mm_per_metre": Fault("120 mm more for each metre above 8.0 m", [edit("grain", "theorem_120_mm_per_metre")]),

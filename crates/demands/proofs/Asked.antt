@@ -7,10 +7,10 @@ use native.Mathlib.Omega.{arith}
 use lib.Dec.{ltb}
 use borrow.Author.Tests.{ltb-true, ltb-false, lt-ltb, le-ltb}
 use Rattle.whole.specs.Lists.{isOneOf}
-use Rattle.text.specs.declared.Reading.{Reading}
-use Rattle.text.specs.declared.Reading.the-variants.{Sound, TooLong, BadByte, NotOneForm, BadNumber}
-use Rattle.text.specs.Line.{readingOf, readingCode}
-use Rattle.text.proofs.Codes.{line-code}
+use Rattle.line_codes.specs.declared.Reading.{Reading}
+use Rattle.line_codes.specs.declared.Reading.the-variants.{Sound, TooLong, BadByte, NotOneForm, BadNumber}
+use Rattle.line_codes.specs.Line.{readingOf, readingCode}
+use Rattle.line_codes.proofs.Codes.{line-code}
 use Rattle.request.specs.declared.Kind.{Kind}
 use Rattle.condition.specs.declared.Condition.{Condition}
 use Rattle.panel.specs.Step.{Outcome, outcomeBy, outcomeOf, outcomeAfter, stepOf}

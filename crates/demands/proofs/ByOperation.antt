@@ -11,10 +11,10 @@ use lib.Dec.{eqb}
 use borrow.Author.Tests.{eqb-true, not-true}
 use Rattle.whole.specs.Lists.{all, isOneOf}
 use Rattle.whole.proofs.Lists.{clash, and-true}
-use Rattle.text.specs.declared.Reading.{Reading}
-use Rattle.text.specs.declared.Reading.the-variants.{Sound, TooLong, BadByte, NotOneForm, BadNumber}
-use Rattle.text.specs.Line.{readingOf, readingCode}
-use Rattle.text.proofs.Codes.{line-code}
+use Rattle.line_codes.specs.declared.Reading.{Reading}
+use Rattle.line_codes.specs.declared.Reading.the-variants.{Sound, TooLong, BadByte, NotOneForm, BadNumber}
+use Rattle.line_codes.specs.Line.{readingOf, readingCode}
+use Rattle.line_codes.proofs.Codes.{line-code}
 use Rattle.request.specs.declared.Kind.{Kind}
 use Rattle.request.specs.declared.Kind.the-variants.{ShipLine, ColumnLine, LoadLine, HoldLine, DropLine, JudgeLine, ClearLine, NoShape}
 use Rattle.condition.specs.declared.Condition.{Condition}

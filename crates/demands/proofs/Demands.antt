@@ -1,5 +1,5 @@
 -- The three demands, of the step of one line and of its repetition over any list of lines.
-use Rattle.text.proofs.Decimals.{number-is}
+use Rattle.line_codes.proofs.Decimals.{number-is}
 use Rattle.reply.proofs.Shown.{at-front}
 use Rattle.condition.proofs.Empty.{starts-empty}
 use Rattle.stability.proofs.Covers.{every-angle}

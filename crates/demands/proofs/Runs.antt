@@ -15,7 +15,7 @@ use Rattle.stability.specs.Arms.{gm, knArm, kgArm, rightingArm, heelingArm, dif
 use Rattle.columns.specs.Search.{columnsAround}
 use Rattle.stability.specs.Verdict.{anglesBelow, diffAt, peak, failsAmong, judgedBy, verdictOf}
 use Rattle.text.specs.Token.{tokens, same, valueFrom, numberOf}
-use Rattle.text.specs.Line.{walked, readingOf}
+use Rattle.line_codes.specs.Line.{walked, readingOf}
 use Rattle.items.specs.Grammar.{open?, close?, run?, head?, number?, numbers?, lastNumbers?, items?}
 use Rattle.parts.specs.Shape.{cellNamed, cell?, section?, slack?, body?, part?}
 use Rattle.request.specs.Shape.{ruleNamed, ship?, column?, load?, modeNamed, parts?, hold?, drop?, bare?, formWord, form?, requestOf}

@@ -3,12 +3,12 @@ use mathlib.Core.Path.{_≡_, refl}
 use mathlib.Core.Bool.{false, _&&_}
 use mathlib.Core.List.{List, _∷_, _++_}
 use Prim.Native.Nat.{ℕ}
-use Rattle.text.specs.declared.Reading.{Reading}
-use Rattle.text.specs.declared.Reading.the-variants.{Sound, TooLong, BadByte, NotOneForm, BadNumber}
+use Rattle.line_codes.specs.declared.Reading.{Reading}
+use Rattle.line_codes.specs.declared.Reading.the-variants.{Sound, TooLong, BadByte, NotOneForm, BadNumber}
 use Rattle.text.specs.Token.{startsRun}
-use Rattle.text.specs.Line.{readingOf}
-use Rattle.text.proofs.Words.{ends}
-use Rattle.text.proofs.Spaces.{tokens-free, reading-free, not-inside}
+use Rattle.line_codes.specs.Line.{readingOf}
+use Rattle.line_codes.proofs.Words.{ends}
+use Rattle.line_codes.proofs.Spaces.{tokens-free, reading-free, not-inside}
 use Rattle.condition.specs.declared.Condition.{Condition}
 use Rattle.panel.specs.Step.{outcomeAfter, stepOf}
 use Rattle.demands.specs.Demands.{SpacesAreFree}

@@ -10,7 +10,7 @@ use Rattle.record.specs.declared.Load.{Load}
 use Rattle.record.specs.Held.{held}
 use Rattle.limits.specs.Ranges.{ShipRange, LoadRange}
 use Rattle.text.specs.Token.{tokens}
-use Rattle.text.specs.Codes.{OtherByte, AllAllowed, OneForm, NoNumber}
+use Rattle.line_codes.specs.Codes.{OtherByte, AllAllowed, OneForm, NoNumber}
 use Rattle.request.specs.declared.Kind.{Kind}
 use Rattle.request.specs.declared.Kind.the-variants.{ShipLine, ColumnLine, LoadLine, HoldLine, DropLine, JudgeLine, ClearLine, NoShape}
 use Rattle.request.specs.declared.Request.{Request}

@@ -1,5 +1,5 @@
 -- The three demands (document 00), of the step of one line and of its repetition over any list of lines. Proved in
--- proofs/Demands.antt. What each layer says by itself stands there: text/specs/Codes.antt, limits/specs/Ranges.antt,
+-- proofs/Demands.antt. What each layer says by itself stands there: line_codes/specs/Codes.antt, limits/specs/Ranges.antt,
 -- grain/specs/Figures.antt, stability/specs/Demand.antt, reply/specs/Shown.antt, judging/specs/Codes.antt, operations/specs/Codes.antt and
 -- Stores.antt; the codes of a line in Codes.antt, the worked runs in Runs.antt.
 use mathlib.Core.Path.{_≡_}
@@ -21,7 +21,7 @@ use Rattle.stability.specs.Demand.{Demand3}
 use Rattle.stability.specs.Margins.{Margins}
 use Rattle.text.specs.declared.Number.the-variants.{Is}
 use Rattle.text.specs.Token.{numberOf}
-use Rattle.text.specs.Codes.{LetterOrDigit, NumberIs}
+use Rattle.line_codes.specs.Codes.{LetterOrDigit, NumberIs}
 use Rattle.request.specs.declared.Kind.the-variants.{ShipLine, ColumnLine, LoadLine, HoldLine, DropLine, JudgeLine, ClearLine}
 use Rattle.reply.specs.Written.{over}
 use Rattle.reply.specs.Shown.{AtFront, AnswerShown, RefusalShown, VerdictShown}

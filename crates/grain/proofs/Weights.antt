@@ -95,18 +95,9 @@ moments-le mode (p ∷ ps) e =
     let t = and-true (partLimits mode p) (all (partLimits mode) ps) e in
     omega (arith, moment-le mode p (t .0), moments-le mode ps (t .1))
 
-percentage-le : (mode : Mode) → percentage mode ≤ 112
-percentage-le Trimmed = omega arith
-percentage-le Voided = omega arith
-percentage-le Partial = omega arith
-
 pub parts-le : (h : Hold) → HoldWithin h → sumOf (partMoment (h .head .mode)) (partsOf h) ≤ 2 ^ 33
 parts-le h w =
     omega (arith, moments-le (h .head .mode) (partsOf h) (w .parts), length-take (h .head .count) (h .parts), w .count)
-
-pub hold-le : (h : Hold) → HoldWithin h → holdMoment h ≤ 2 ^ 34
-unfolding holdMoment
-hold-le h w = omega (arith, mul-le-mul (parts-le h w) (percentage-le (h .head .mode)))
 
 -- ---- an answer taken apart
 pub moment-of : (b : Bool) (x m : ℕ) → Moment m ≡ cond b (Moment x) NoFit → (b ≡ true) × (m ≡ x)

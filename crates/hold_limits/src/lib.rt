@@ -100,6 +100,7 @@ fn width_together(p: Part) -> u32
     sum
 }
 
+// The number in 32 bits, for the prover: that it is below 65,536 is known at the call then.
 fn wide(x: u16) -> u32
     ensures { λ r. ⌜ r ≡ x ⌝ }
     ensures { λ r. ⌜ r < 65536 ⌝ }

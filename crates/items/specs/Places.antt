@@ -1,4 +1,6 @@
--- What each reading step answers, said of the tokens that are left of the line.
+-- What each reading step answers, said of the tokens that are left of the line. Left free, since no answer to a line depends on it: before which of
+-- the spaces in front of the next token a place is, which of two equal runs of a line a span is, and what `values` has behind those asked for or where
+-- the end is nowhere.
 use mathlib.Core.Path.{_≡_}
 use mathlib.Core.Bool.{Bool, true, false}
 use mathlib.Core.List.{List, [], _∷_}

@@ -40,6 +40,7 @@ pub struct Sizes {
     pub end: Place,
 }
 
+// An opening bracket.
 pub fn open_at(s: &[u8], at: usize) -> Place
     requires { ⌜ at ≤ length (now s) ⌝ }
     ensures { λ r. ⌜ PlaceIs (open? (tokens (drop at (now (s .entry))))) (now (s .entry)) r ⌝ }
@@ -53,6 +54,7 @@ pub fn open_at(s: &[u8], at: usize) -> Place
     }
 }
 
+// A closing bracket.
 pub fn close_at(s: &[u8], at: usize) -> Place
     requires { ⌜ at ≤ length (now s) ⌝ }
     ensures { λ r. ⌜ PlaceIs (close? (tokens (drop at (now (s .entry))))) (now (s .entry)) r ⌝ }
@@ -66,6 +68,7 @@ pub fn close_at(s: &[u8], at: usize) -> Place
     }
 }
 
+// A run.
 pub fn span_at(s: &[u8], at: usize) -> Span
     requires { ⌜ at ≤ length (now s) ⌝ }
     ensures { λ r. ⌜ SpanIs (run? (tokens (drop at (now (s .entry))))) (now (s .entry)) r ⌝ }
@@ -90,6 +93,7 @@ pub fn head_at(s: &[u8], at: usize) -> Span
     span_at(s, p)
 }
 
+// A number.
 pub fn number_at(s: &[u8], at: usize) -> Item
     requires { ⌜ at ≤ length (now s) ⌝ }
     ensures { λ r. ⌜ ItemIs (number? (tokens (drop at (now (s .entry))))) (now (s .entry)) r ⌝ }
@@ -110,6 +114,7 @@ fn as_field(v: u32) -> u16
     if v <= 65535 { v as u16 } else { 65535 }
 }
 
+// A number as its field carries it.
 pub fn size_at(s: &[u8], at: usize) -> Size
     requires { ⌜ at ≤ length (now s) ⌝ }
     ensures { λ r. ⌜ SizeIs (carry carried (number? (tokens (drop at (now (s .entry)))))) (now (s .entry)) r ⌝ }

@@ -5,7 +5,7 @@ use Prim.Native.Nat.{ℕ, zero, suc, _+_, _-_, _≤_, _<_}
 use native.Mathlib.Omega.{arith}
 use lib.ListN.{length, take, length-append}
 use lib.Seq.{take-all, take-nil}
-use Rattle.text.proofs.Order.{first-bytes, too-long}
+use Rattle.line_codes.proofs.Order.{first-bytes, too-long}
 use Rattle.condition.specs.declared.Condition.{Condition}
 use Rattle.condition.specs.Condition.{empty}
 use Rattle.panel.specs.Step.{stepOf, conditionAfter}

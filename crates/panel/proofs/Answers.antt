@@ -6,10 +6,10 @@ use Prim.Native.Nat.{ℕ, _≤_, _<_}
 use native.Mathlib.Omega.{arith}
 use lib.Dec.{eqb, ltb}
 use borrow.Author.Tests.{lt-ltb, le-ltb, ne-eqb, eqb-false}
-use Rattle.text.specs.declared.Reading.{Reading}
-use Rattle.text.specs.declared.Reading.the-variants.{Sound, TooLong, BadByte, NotOneForm, BadNumber}
+use Rattle.line_codes.specs.declared.Reading.{Reading}
+use Rattle.line_codes.specs.declared.Reading.the-variants.{Sound, TooLong, BadByte, NotOneForm, BadNumber}
 use Rattle.text.specs.Token.{tokens}
-use Rattle.text.specs.Line.{readingOf, readingCode}
+use Rattle.line_codes.specs.Line.{readingOf, readingCode}
 use Rattle.request.specs.declared.Kind.the-variants.{NoShape}
 use Rattle.request.specs.Shape.{plain}
 use Rattle.condition.specs.declared.Condition.{Condition}

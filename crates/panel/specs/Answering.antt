@@ -11,10 +11,10 @@ use Rattle.limits.specs.Limits.{placeLimits}
 use Rattle.record.specs.Held.{held}
 use Rattle.columns.specs.Columns.{withColumn}
 use Rattle.record.specs.Filler.{noHold}
-use Rattle.text.specs.declared.Reading.{Reading}
-use Rattle.text.specs.declared.Reading.the-variants.{Sound, TooLong, BadByte, NotOneForm, BadNumber}
+use Rattle.line_codes.specs.declared.Reading.{Reading}
+use Rattle.line_codes.specs.declared.Reading.the-variants.{Sound, TooLong, BadByte, NotOneForm, BadNumber}
 use Rattle.text.specs.Token.{tokens}
-use Rattle.text.specs.Line.{readingOf, readingCode}
+use Rattle.line_codes.specs.Line.{readingOf, readingCode}
 use Rattle.request.specs.declared.Kind.{Kind}
 use Rattle.request.specs.declared.Kind.the-variants.{ShipLine, ColumnLine, LoadLine, HoldLine, DropLine, JudgeLine, ClearLine, NoShape}
 use Rattle.request.specs.declared.Request.{Request}

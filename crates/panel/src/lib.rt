@@ -47,7 +47,7 @@ pub struct Stepped {
 pub fn hear(line: &[u8]) -> Heard
     ensures { λ r. ⌜ r ≡ heardOf (now (line .entry)) ⌝ }
 {
-    let found = text::reading_code(text::reading_of(line));
+    let found = line_codes::reading_code(line_codes::reading_of(line));
     if found != 0 {
         return Heard {
             code: found,
@@ -123,6 +123,8 @@ pub fn answer(c: Condition, h: Heard, out: &mut [u8]) -> Replied
     let request = h.request;
     reply_to(c, request, out)
 }
+
+// ---- effect and step
 
 // What a request that was answered with 00 puts into the condition. The condition is large, and is copied wherever a function gives it: a
 // line that is turned down never comes here.

@@ -1,4 +1,5 @@
--- What each reading step of cells and parts answers, said of the tokens that are left of the line.
+-- What each reading step of cells and parts answers, said of the tokens that are left of the line. Left free: what items/specs/Places.antt names, and
+-- count and places where the end is nowhere.
 use mathlib.Core.Path.{_≡_}
 use mathlib.Core.List.{List}
 use Prim.Native.Nat.{ℕ}

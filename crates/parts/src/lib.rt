@@ -9,7 +9,7 @@ use record::Slot;
 ghost use mathlib.Core.Path.{_≡_};
 ghost use mathlib.Core.List.{map};
 ghost use Prim.Native.Nat.{_≤_};
-ghost use lib.ListN.{length, take, drop};
+ghost use lib.ListN.{length, drop};
 ghost use Rattle.text.specs.Token.{tokens};
 ghost use Rattle.record.specs.Filler.{noSlot, noPart};
 ghost use Rattle.items.specs.Grammar.{items?};
@@ -57,6 +57,7 @@ pub struct Parts {
 
 // ---- cells
 
+// The word of a cell.
 fn cell_named(word: &[u8]) -> CellNamed
     ensures { λ r. ⌜ r ≡ cellNamed (now (word .entry)) ⌝ }
 {
@@ -236,6 +237,7 @@ fn body_at(s: &[u8], at: usize, mode: Mode) -> PartItem
     }
 }
 
+// A part, by its word.
 fn part_at(s: &[u8], at: usize, mode: Mode) -> PartItem
     requires { ⌜ at ≤ length (now s) ⌝ }
     ensures { λ r. ⌜ Ends (carry carriedPart (part? mode (tokens (drop at (now (s .entry)))))) (now (s .entry)) (r .part) (r .end) ⌝ }

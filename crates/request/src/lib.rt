@@ -50,7 +50,7 @@ pub enum RuleNamed {
     NoRule,
 }
 
-// The word of a mode.
+// A mode, where its word was read.
 pub enum ModeNamed {
     As(Mode),
     NoMode,
@@ -74,8 +74,9 @@ pub struct Form {
     pub end: Place,
 }
 
-// ---- a request without hold or column
+// ---- ships, loads, drops, columns
 
+// A request without hold or column.
 pub fn plain(kind: Kind) -> Request
     ensures { λ r. ⌜ r ≡ Shape·plain kind ⌝ }
 {
@@ -97,6 +98,7 @@ fn no_form() -> Form
     }
 }
 
+// The word of a rule.
 fn rule_named(word: &[u8]) -> RuleNamed
     ensures { λ r. ⌜ r ≡ ruleNamed (now (word .entry)) ⌝ }
 {
@@ -109,6 +111,7 @@ fn rule_named(word: &[u8]) -> RuleNamed
     RuleNamed::NoRule
 }
 
+// The rule that its word and its edge make.
 fn rule_of(word: RuleWord, edge: u16) -> Rule
     ensures { λ r. ⌜ r ≡ ruleOf word edge ⌝ }
 {
@@ -250,6 +253,7 @@ fn parts_at(s: &[u8], at: usize, n: u32, mode: Mode) -> Form
     Form { request, end }
 }
 
+// The word of a mode.
 fn mode_named(word: &[u8]) -> ModeNamed
     ensures { λ r. ⌜ r ≡ modeNamed (now (word .entry)) ⌝ }
 {
@@ -284,6 +288,7 @@ fn hold_at(s: &[u8], at: usize) -> Form
 
 // ---- a line
 
+// The word of a form.
 fn form_word(word: &[u8]) -> FormWord
     ensures { λ r. ⌜ r ≡ formWord (now (word .entry)) ⌝ }
 {

@@ -7,6 +7,7 @@ use mathlib.Core.Bool.{cond}
 use mathlib.Core.List.{List, [], _∷_}
 use Prim.Native.Nat.{ℕ, zero, suc, _+_, _*_, _-_, _≤_, _<_}
 use native.Mathlib.Omega.{arith}
+use native.Mathlib.Nat.{mul-pos}
 use lib.Dec.{leb}
 use lib.IntN.{ℤ}
 use lib.ListN.{getD}
@@ -92,13 +93,20 @@ wide i = angleOf (suc i) - angleOf i
 abbrev pub along : (ℕ → ℕ) → (i n k : ℕ) → ℕ
 along f i n k = f i * (angleOf (suc i) * k - n) + f (suc i) * (n - angleOf i * k)
 
--- ---- the exact righting arm less the exact heeling arm: (rights − takes)/over
+-- ---- an exact value as two whole numbers over one denominator: (rights − takes)/over
 pub record Exact : Type 0 where
   pub rights : ℕ
   pub takes : ℕ
   pub over : ℕ
 
--- at the k-th of the ten angles
+-- the exact GM, KM − (KG + FS); the exact righting arm at the k-th of the ten angles
+abbrev pub exactGM : Basis → Exact
+exactGM b = record { rights = kmOver b; takes = 1000 * (b .load .kg + b .load .fs) * apart b; over = apart b }
+
+abbrev pub exactRighting : Basis → ℕ → Exact
+exactRighting b k = record { rights = 1000 * knOver b k; takes = apart b * kgOver b k; over = apart b * 1000 }
+
+-- the exact righting arm less the exact heeling arm, at the k-th of the ten angles
 abbrev pub exactTen : Basis → ℕ → Exact
 exactTen b k = record { rights = exactKN b k; takes = exactTaken b k; over = den b }
 
@@ -122,9 +130,18 @@ NotUnder z e = plus z * e .over + e .takes ≤ e .rights + minus z * e .over
 abbrev pub LessOver : ℤ → ℕ → Exact → Type 0
 LessOver z w e = e .rights + minus z * e .over < (plus z + w) * e .over + e .takes
 
--- the exact GM, (kmOver − 1,000 × (KG + FS) × (D₂ − D₁))/(D₂ − D₁), is below c
+-- the exact GM is below c
 abbrev pub ExactGMBelow : Basis → ℕ → Type 0
-ExactGMBelow b c = kmOver b < 1000 * (b .load .kg + b .load .fs) * apart b + c * apart b
+ExactGMBelow b c = LessThan c (exactGM b)
+
+-- the denominators are above zero where the columns are apart and D is above zero
+pub overs-some : (b : Basis) → 0 < apart b → 0 < b .load .d → (0 < exactGM b .over) × ((k : ℕ) → 0 < exactRighting b k .over) × ((k : ℕ) → 0 < exactTen b k .over)
+overs-some b a d =
+    (a, λ k. mul-pos a (omega arith), λ k. mul-pos a (mul-pos {m = 1000} (omega arith) (mul-pos {m = 20000} (omega arith) d)))
+
+-- what the heeling arm takes from the exact righting arm is 1,000 × W × (20,000 − angle)/(20,000 × D)
+pub ten-takes : (b : Basis) (k : ℕ) → exactTen b k .takes ≡ exactRighting b k .takes * (20000 * b .load .d) + heelOver b k * exactRighting b k .over
+ten-takes b k = omega arith
 
 -- ---- the area above zero
 -- how far a stretch from a to c counts: nothing where u is not above a, all of it where u is not below c, else up to u

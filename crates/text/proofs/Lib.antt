@@ -1,11 +1,3 @@
 pub mod Scans
-pub mod Closing
-pub mod Walks
 pub mod Numbers
 pub mod Runs
-pub mod Order
-pub mod Forms
-pub mod Decimals
-pub mod Words
-pub mod Codes
-pub mod Spaces

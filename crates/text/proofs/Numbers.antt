@@ -9,7 +9,6 @@ use lib.ListN.{length, getD, drop}
 use borrow.Author.Tests.{ne-eqb, le-leb, lt-leb}
 use Rattle.whole.specs.Lists.{all}
 use Rattle.text.specs.Token.{isDigit, valueFrom, value, needlessZero, isNumber, numberOf}
-use Rattle.text.specs.Line.{numberIfDigit}
 use Rattle.text.specs.Places.{digitsFrom}
 use Rattle.text.specs.declared.Number.{Number}
 use Rattle.text.specs.declared.Number.the-variants.{Is, Bad}
@@ -84,19 +83,6 @@ abbrev pub says : Number → Bool
 says (Is n) = true
 says Bad = false
 
-says-by : (x : Bool) (n : ℕ) → says (cond x (Is n) Bad) ≡ x
+pub says-by : (x : Bool) (n : ℕ) → says (cond x (Is n) Bad) ≡ x
 says-by true n = refl
 says-by false n = refl
-
-pub sound-none : (r : List ℕ) → length r ≡ 0 → numberIfDigit r ≡ true
-sound-none [] p = refl
-sound-none (b ∷ s) p = absurd (omega arith)
-
-pub sound-word : (r : List ℕ) → isDigit (getD r 0 0) ≡ false → numberIfDigit r ≡ true
-sound-word [] e = refl
-sound-word (b ∷ s) e = rw e
-
-pub sound-number : (r : List ℕ) → (length r ≡ 0 → ⊥) → isDigit (getD r 0 0) ≡ true → numberIfDigit r ≡ says (numberOf r)
-unfolding numberOf
-sound-number [] p e = absurd (p refl)
-sound-number (b ∷ s) p e = rw e (sym (says-by (isNumber (b ∷ s)) (value (b ∷ s))))

@@ -11,9 +11,9 @@ use lib.Seq.{drop-drop, getD-drop}
 use borrow.Author.Tests.{eqb-true, ne-eqb}
 use Rattle.whole.specs.Lists.{all, within}
 use Rattle.whole.proofs.Lists.{drop-next, drop-end}
-use Rattle.text.specs.Token.{space, opening, closing, inRun}
-use Rattle.text.specs.Line.{allowed}
-use Rattle.text.specs.Places.{classOf, ofClass, prefix, startsToken}
+use Rattle.text.specs.Token.{allowed, space, opening, closing, inRun}
+use Rattle.text.specs.Token.{prefix}
+use Rattle.text.specs.Places.{classOf, ofClass, startsToken}
 
 module _ (f : ℕ → Bool) where
   -- ---- a scan, place by place

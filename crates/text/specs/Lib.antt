@@ -1,4 +1,2 @@
 pub mod Token
-pub mod Line
 pub mod Places
-pub mod Codes

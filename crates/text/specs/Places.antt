@@ -1,19 +1,16 @@
 -- Places of a line, as the reader carries them from step to step. The laws lead from them to the definitions of Token and Line.
-use mathlib.Core.Path.{_≡_}
-use mathlib.Core.Bool.{Bool, true, cond, not, _&&_, _||_}
+use mathlib.Core.Bool.{Bool, cond, not, _&&_, _||_}
 use mathlib.Core.List.{List, [], _∷_}
-use Prim.Native.Nat.{ℕ, suc, _+_, _-_}
+use Prim.Native.Nat.{ℕ, _+_}
 use lib.Bits.{bitAnd}
 use lib.Dec.{eqb, leb}
-use lib.ListN.{take, drop}
-use Rattle.text.specs.declared.Closed.{Closed}
-use Rattle.text.specs.declared.Closed.the-variants.{At, Nowhere}
+use lib.ListN.{drop}
 use Rattle.whole.specs.Lists.{all}
 use Rattle.text.specs.declared.Number.{Number}
 use Rattle.text.specs.declared.Number.the-variants.{Is, Bad}
 use Rattle.text.specs.declared.Next.{Next}
 use Rattle.text.specs.declared.Next.the-variants.{Open, Close, Run, End}
-use Rattle.text.specs.Token.{space, opening, closing, isDigit, inRun, startsRun, run, tokens, valueFrom, greatestNumber}
+use Rattle.text.specs.Token.{space, opening, closing, isDigit, inRun, prefix, runLength, valueFrom, greatestNumber}
 
 -- the class of a byte: 1 a letter or digit, 2 a bracket, 4 a space, 8 any other
 abbrev pub classOf : ℕ → ℕ
@@ -23,32 +20,9 @@ classOf b = cond (inRun b) 1 (cond (eqb b opening || eqb b closing) 2 (cond (eqb
 unfoldable pub ofClass : (asked : ℕ) → ℕ → Bool
 ofClass asked b = not (eqb (bitAnd (classOf b) asked) 0)
 
--- how many bytes in front pass the test
-unfoldable pub prefix : (ℕ → Bool) → List ℕ → ℕ
-prefix f [] = 0
-prefix f (b ∷ s) = cond (f b) (suc (prefix f s)) 0
-
 -- how many spaces stand in front
 abbrev pub spaces : List ℕ → ℕ
 spaces s = prefix (λ b. eqb b space) s
-
--- the place behind the bracket that closes a form, in what is left of a line from the place p on: `deep` forms are open inside
--- it, and forms may be nested at most `left` deeper
-unfoldable pub closeAt : List ℕ → (p left deep : ℕ) → Closed
-closeAt [] p left deep = Nowhere
-closeAt (b ∷ s) p left deep =
-    cond (eqb b closing) (cond (eqb deep 0) (At (p + 1)) (closeAt s (p + 1) (left + 1) (deep - 1)))
-    (cond (eqb b opening) (cond (eqb left 0) Nowhere (closeAt s (p + 1) (left - 1) (deep + 1)))
-    (closeAt s (p + 1) left deep))
-
--- how many bytes the run in front has
-abbrev pub runLength : List ℕ → ℕ
-runLength s = prefix inRun s
-
--- the plain rule of tokens where a run stands in front: all its bytes are one token, and the tokens behind it are those of what is left
--- (`run-token`, proofs/Runs.antt)
-abbrev pub RunRule : Type 0
-RunRule = (s : List ℕ) → startsRun s ≡ true → tokens s ≡ run (take (runLength s) s) ∷ tokens (drop (runLength s) s)
 
 -- how many bytes in front are of no run
 abbrev pub otherLength : List ℕ → ℕ

@@ -1,8 +1,10 @@
 -- Document 01, Lines of the panel: bytes, runs and tokens.
+use mathlib.Core.Path.{_≡_}
 use mathlib.Core.Bool.{Bool, true, false, cond, not, _&&_, _||_}
 use mathlib.Core.List.{List, [], _∷_}
-use Prim.Native.Nat.{ℕ, _+_, _-_, _*_}
+use Prim.Native.Nat.{ℕ, suc, _+_, _-_, _*_}
 use lib.Dec.{eqb, leb}
+use lib.ListN.{take, drop}
 use Rattle.whole.specs.Lists.{within, all}
 use Rattle.text.specs.declared.Number.{Number}
 use Rattle.text.specs.declared.Number.the-variants.{Is, Bad}
@@ -26,6 +28,10 @@ isDigit b = within 48 57 b
 
 abbrev pub inRun : ℕ → Bool
 inRun b = isLetter b || isDigit b
+
+-- what a line may have: brackets, space, a to z, 0 to 9
+abbrev pub allowed : ℕ → Bool
+allowed b = inRun b || eqb b space || eqb b opening || eqb b closing
 
 -- A line is a list of brackets and runs; spaces only part runs.
 pub data Token : Type 0 where
@@ -54,6 +60,20 @@ tokensWith b s ts =
 unfoldable pub tokens : List ℕ → List Token
 tokens [] = []
 tokens (b ∷ s) = tokensWith b s (tokens s)
+
+-- how many bytes in front pass the test
+unfoldable pub prefix : (ℕ → Bool) → List ℕ → ℕ
+prefix f [] = 0
+prefix f (b ∷ s) = cond (f b) (suc (prefix f s)) 0
+
+-- how many bytes the run in front has
+abbrev pub runLength : List ℕ → ℕ
+runLength s = prefix inRun s
+
+-- the plain rule of tokens where a run stands in front: all its bytes are one token, and the tokens behind it are those of what is left
+-- (`run-token`, proofs/Runs.antt)
+abbrev pub RunRule : Type 0
+RunRule = (s : List ℕ) → startsRun s ≡ true → tokens s ≡ run (take (runLength s) s) ∷ tokens (drop (runLength s) s)
 
 -- the same bytes
 unfoldable pub same : List ℕ → List ℕ → Bool

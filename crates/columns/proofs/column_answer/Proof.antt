@@ -34,8 +34,7 @@ returns-4 : tie.Need-returns-4
 returns-4 c =
     let if1 = c .before .before .before .before .before .before .if1 in
     let column-limits = c .before .before .before .before .before .before .before .column-limits in
-    let args = c .before .before .before .before .before .before .before .before .args in
-    let a = args in
+    let a = c .before .before .before .before .before .before .before .before .args in
     let l : length (a .t1 .places) ≡ 20 = search (unmapped, needs) in
     let good : columnLimits (a .k) ≡ true = sym (column-limits .ensures) ∙ not-false _ (if1 .left) in
     answer-above (held (a .t1)) (a .k) good true (omega (arith, length-take (a .t1 .count) (a .t1 .places)))
@@ -45,8 +44,7 @@ returns-5 : tie.Need-returns-5
 returns-5 c =
     let if1 = c .before .before .before .before .before .before .if1 in
     let column-limits = c .before .before .before .before .before .before .before .column-limits in
-    let args = c .before .before .before .before .before .before .before .before .args in
-    let a = args in
+    let a = c .before .before .before .before .before .before .before .before .args in
     let l : length (a .t1 .places) ≡ 20 = search (unmapped, needs) in
     let good : columnLimits (a .k) ≡ true = sym (column-limits .ensures) ∙ not-false _ (if1 .left) in
     answer-above (held (a .t1)) (a .k) good false (omega (arith, length-take (a .t1 .count) (a .t1 .places)))

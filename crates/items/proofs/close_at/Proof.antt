@@ -1,4 +1,4 @@
--- `close_at`
+-- `close_at`: A closing bracket.
 use Rattle.text.proofs.Runs.{next-by}
 use Rattle.items.specs.Grammar.{close?}
 use borrow.Author.Needs.{needs}

@@ -1,4 +1,4 @@
--- `number_at`
+-- `number_at`: A number.
 use Rattle.items.specs.Grammar.{number?}
 use Rattle.text.specs.Token.{numberOf}
 use mathlib.Core.Path.{sym, _∙_, ap}

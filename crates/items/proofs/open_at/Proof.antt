@@ -1,4 +1,4 @@
--- `open_at`
+-- `open_at`: an opening bracket.
 use Rattle.text.proofs.Runs.{next-by}
 use Rattle.items.specs.Grammar.{open?}
 use borrow.Author.Needs.{needs}

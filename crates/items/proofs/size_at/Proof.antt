@@ -1,4 +1,4 @@
--- `size_at`
+-- `size_at`: A number as its field carries it.
 use borrow.Author.Needs.{needs}
 use Rattle.items.proofs.size_at.Statement.{statement}
 use Rattle.items.proofs.size_at.Tie as tie

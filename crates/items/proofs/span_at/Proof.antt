@@ -1,4 +1,4 @@
--- `span_at`
+-- `span_at`: A run.
 use Rattle.text.proofs.Runs.{next-by}
 use Rattle.items.specs.Grammar.{run?}
 use borrow.Author.Needs.{needs}

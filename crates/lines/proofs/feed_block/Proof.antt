@@ -23,9 +23,8 @@ returns-2 c =
 keep-requires : tie.Need-keep-requires
 keep-requires c κs =
     let take-lines = c .before .before .before .before .before .before .before .before .before .take-lines in
-    let first-line = c .before .before .before .before .before .before .before .before .before .before .before .before .before .before .before .before .first-line in
+    let f = c .before .before .before .before .before .before .before .before .before .before .before .before .before .before .before .before .first-line in
     let pre = c .before .before .before .before .before .before .before .before .before .before .before .before .before .before .before .before .before .before .before .before .before .before .pre in
-    let f = first-line in
     (omega (arith, take-lines .ensures .kept, f .ensures .begun), f .kept .1 .1 .1 .0 ∙ pre .1 .long)
 
 same-length-5 : tie.Need-same-length-5

@@ -14,26 +14,23 @@ returns c =
 
 returns-2 : tie.Need-returns-2
 returns-2 c =
-    let line-end = c .before .before .before .before .before .before .line-end in
+    let e = c .before .before .before .before .before .before .line-end in
     let if1 = c .before .before .before .before .before .before .before .if1 in
     let s = c .before .before .before .before .before .before .before .before .before .before .before .before in
     let a = s .args in
     let k = c .before .before .before .keep in
-    let e = line-end in
     first-on (a .f) _ (a .line .now) (a .out .now) (a .block .now) _ (a .at) (e .result) (e .ensures .0) (s .pre .0) (e .ensures .1) refl refl refl (k .ensures .1)
     (omega (arith, s .pre .1 .waits)) (omega (arith, if1 .left)) (k .ensures .0) (c .if2 .taken)
 
 returns-3 : tie.Need-returns-3
 returns-3 c =
     let if2 = c .before .before .before .before .before .before .before .before .if2 in
-    let keep = c .before .before .before .before .before .before .before .before .before .before .before .keep in
-    let line-end = c .before .before .before .before .before .before .before .before .before .before .before .before .before .before .line-end in
+    let k = c .before .before .before .before .before .before .before .before .before .before .before .keep in
+    let e = c .before .before .before .before .before .before .before .before .before .before .before .before .before .before .line-end in
     let if1 = c .before .before .before .before .before .before .before .before .before .before .before .before .before .before .before .if1 in
     let s = c .before .before .before .before .before .before .before .before .before .before .before .before .before .before .before .before .before .before .before .before in
     let a = s .args in
     let t = c .before .before .before .before .before .take-begun in
-    let k = keep in
-    let e = line-end in
     rw (c .behind .ensures .0)
     (first-taken (a .f) _ (a .line .now) (a .out .now) (a .block .now) (k .last .0) (a .at) (e .result) (e .ensures .0) (s .pre .0) (e .ensures .1) refl refl refl (k .ensures .1)
     (omega (arith, s .pre .1 .waits)) (omega (arith, if1 .left)) (k .ensures .0) (t .result) _ _ (t .ensures) (omega (arith, if2 .left)))

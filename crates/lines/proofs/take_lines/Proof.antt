@@ -51,17 +51,13 @@ loop-less c =
 
 loop-again : tie.Need-loop-again Inv-loop μ-loop
 loop-again c =
-    let answer-line = c .before .before .before .before .before .before .before .answer-line in
-    let hear = c .before .before .before .before .before .before .before .before .before .hear in
+    let a = c .before .before .before .before .before .before .before .answer-line in
+    let h = c .before .before .before .before .before .before .before .before .before .hear in
     let if2 = c .before .before .before .before .before .before .before .before .before .before .before .if2 in
-    let line-end = c .before .before .before .before .before .before .before .before .before .before .before .before .line-end in
+    let e = c .before .before .before .before .before .before .before .before .before .before .before .before .line-end in
     let loop-test = c .before .before .before .before .before .before .before .before .before .before .before .before .before .before .loop-test in
-    let loop = c .before .before .before .before .before .before .before .before .before .before .before .before .before .before .before .loop in
+    let l = c .before .before .before .before .before .before .before .before .before .before .before .before .before .before .before .loop in
     let args = c .before .before .before .before .before .before .before .before .before .before .before .before .before .before .before .before .before .before .before .args in
-    let l = loop in
-    let e = line-end in
-    let h = hear in
-    let a = answer-line in
     let t = between (args .block .now) (l .i) (e .result) in
     let o = heard-as (l .c) t 96 (h .result) (h .ensures) in
     let d = answer-effect (l .c) (h .result) 96 t o (a .result .code) (a .ensures .coded) (c .before .before .if3 .taken) (c .effect .result) (c .effect .ensures) in
@@ -74,15 +70,12 @@ loop-less-2 c =
 
 loop-again-2 : tie.Need-loop-again-2 Inv-loop μ-loop
 loop-again-2 c =
-    let hear = c .before .before .before .before .before .before .before .hear in
+    let h = c .before .before .before .before .before .before .before .hear in
     let if2 = c .before .before .before .before .before .before .before .before .before .if2 in
-    let line-end = c .before .before .before .before .before .before .before .before .before .before .line-end in
+    let e = c .before .before .before .before .before .before .before .before .before .before .line-end in
     let loop-test = c .before .before .before .before .before .before .before .before .before .before .before .before .loop-test in
-    let loop = c .before .before .before .before .before .before .before .before .before .before .before .before .before .loop in
+    let l = c .before .before .before .before .before .before .before .before .before .before .before .before .before .loop in
     let args = c .before .before .before .before .before .before .before .before .before .before .before .before .before .before .before .before .before .args in
-    let l = loop in
-    let e = line-end in
-    let h = hear in
     let a = c .before .before .before .before .before .answer-line in
     let t = between (args .block .now) (l .i) (e .result) in
     let o = heard-as (l .c) t 96 (h .result) (h .ensures) in

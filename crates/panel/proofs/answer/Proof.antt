@@ -15,14 +15,12 @@ returns c =
 
 returns-2 : tie.Need-returns-2
 returns-2 c =
-    let args = c .before .before .before .before .before .before .before .args in
-    let k = args in
+    let k = c .before .before .before .before .before .before .before .args in
     rw (heard-refused (k .c) (k .h) (length (k .out .now)) (search needs) (c .before .before .before .before .if2 .taken)) (c .before .before .answer-with .ensures)
 
 returns-3 : tie.Need-returns-3
 returns-3 c =
-    let args = c .before .before .before .before .before .before .before .before .args in
-    let k = args in
+    let k = c .before .before .before .before .before .before .before .before .args in
     rw (heard-request (k .c) (k .h) (length (k .out .now)) (search needs) (c .before .before .before .before .before .if2 .left)) (c .before .before .reply-to .ensures)
 
 pub answer-spec : {M : Type 1} → statement M

@@ -1,6 +1,6 @@
 -- `hear`: the tests of the whole line, and the request of one that passes them.
 use mathlib.Core.Path.{sym, _∙_, ap}
-use Rattle.text.specs.Line.{readingOf, readingCode}
+use Rattle.line_codes.specs.Line.{readingOf, readingCode}
 use Rattle.panel.proofs.Answers.{line-sound, heard-down}
 use borrow.Author.Needs.{needs}
 use Rattle.panel.proofs.hear.Statement.{statement}

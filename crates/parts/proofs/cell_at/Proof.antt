@@ -52,12 +52,11 @@ returns-3 c =
 returns-4 : tie.Need-returns-4
 unfolding cell?
 returns-4 c =
-    let numbers-of = c .before .before .before .before .before .before .numbers-of in
+    let r = c .before .before .before .before .before .before .numbers-of in
     let k = c .before .before .before .before .before .before .before .before .before .before .before .before .before in
     let n = rw (k .a .given .1) at (k .before .before .head-at .ensures) in
     let w = c .before .before .before .before .before .before .before .before in
     let e = ap cellNamed (sym (w .before .before .before .run-of .ensures)) ∙ sym (w .before .before .cell-named .ensures) ∙ w .word .given .1 in
-    let r = numbers-of in
     let sizes = c .before .before .before .before .before .sizes-at in
     let m = rw (c .before .before .before .end .given .1) at (sizes .ensures) in
     let s = k .before .before .before .before .args .s .now in

@@ -1,4 +1,4 @@
--- `cell_named`
+-- `cell_named`: the word of a cell.
 use mathlib.Core.Path.{sym, _∙_}
 use Rattle.text.specs.Token.{same}
 use Rattle.parts.specs.Shape.{cellNamed}

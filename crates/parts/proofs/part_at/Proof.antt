@@ -1,4 +1,4 @@
--- `part_at`
+-- `part_at`: A part, by its word.
 use mathlib.Core.Path.{sym, _∙_}
 use Rattle.text.specs.Token.{same}
 use Rattle.parts.specs.Shape.{part?}

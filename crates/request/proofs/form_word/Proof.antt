@@ -1,4 +1,4 @@
--- `form_word`
+-- `form_word`: the word of a form.
 use mathlib.Core.Path.{sym, _∙_}
 use Rattle.text.specs.Token.{same}
 use Rattle.request.specs.Shape.{formWord}

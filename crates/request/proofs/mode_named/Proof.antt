@@ -1,4 +1,4 @@
--- `mode_named`
+-- `mode_named`: the word of a mode.
 use mathlib.Core.Path.{sym, _∙_}
 use Rattle.text.specs.Token.{same}
 use Rattle.request.specs.Shape.{modeNamed}

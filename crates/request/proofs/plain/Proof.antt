@@ -1,4 +1,4 @@
--- `plain`
+-- `plain`: A request without hold or column.
 use borrow.Author.Needs.{needs}
 use Rattle.request.proofs.plain.Statement.{statement}
 use Rattle.request.proofs.plain.Tie as tie

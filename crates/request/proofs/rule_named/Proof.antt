@@ -1,4 +1,4 @@
--- `rule_named`
+-- `rule_named`: the word of a rule.
 use mathlib.Core.Path.{sym, _∙_}
 use Rattle.text.specs.Token.{same}
 use Rattle.request.specs.Shape.{ruleNamed}

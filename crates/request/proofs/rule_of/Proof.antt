@@ -1,4 +1,4 @@
--- `rule_of`
+-- `rule_of`: the rule that its word and its edge make.
 use borrow.Author.Needs.{needs}
 use Rattle.request.proofs.rule_of.Statement.{statement}
 use Rattle.request.proofs.rule_of.Tie as tie

@@ -4,7 +4,8 @@ use mathlib.Core.Path.{_≡_}
 use Prim.Native.Nat.{_≤_, _-_, _+_}
 use native.Mathlib.Omega.{arith}
 use lib.ListN.{length, drop}
-use Rattle.text.specs.Places.{ofClass, prefix}
+use Rattle.text.specs.Token.{prefix}
+use Rattle.text.specs.Places.{ofClass}
 use Rattle.text.proofs.Scans.{scan-on, scan-off, scan-out, class-in, class-out}
 use Rattle.text.proofs.scan.Statement.{statement}
 use Rattle.text.proofs.scan.Tie as tie

@@ -1,0 +1,9 @@
+pub mod Sounds
+pub mod Walks
+pub mod Closing
+pub mod Forms
+pub mod Decimals
+pub mod Words
+pub mod Order
+pub mod Codes
+pub mod Spaces
