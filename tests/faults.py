@@ -42,8 +42,8 @@ new: text::same(word, b"new")
 old: text::same(word, b"other")
 new: text::same(word, b"old")
 file: crates/request/specs/Shape.antt
-old: cond (is r "new") (Under NewWord) (cond (is r "old") (Under OldWord)
-new: cond (is r "old") (Under NewWord) (cond (is r "new") (Under OldWord)
+old: ("new", Under NewWord) ∷ ("old", Under OldWord)
+new: ("old", Under NewWord) ∷ ("new", Under OldWord)
 """
 
 ROOM_128 = """

@@ -1,3 +1,4 @@
 pub mod Walks
 pub mod Yields
 pub mod Kept
+pub mod Words

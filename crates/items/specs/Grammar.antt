@@ -1,5 +1,5 @@
 -- Reading a shape from the front of a list of tokens: what was read, and the tokens behind it.
-use mathlib.Core.Bool.{Bool}
+use mathlib.Core.Bool.{Bool, cond}
 use mathlib.Core.List.{List, [], _∷_}
 use Prim.Native.Nat.{ℕ, zero, suc}
 use Prim.Native.String.{String}
@@ -46,6 +46,11 @@ head? ts = open? ts andThen λ u us. run? us
 -- this word
 abbrev pub is : List ℕ → String → Bool
 is r word = same r (bytes word)
+
+-- what a run stands for, by a table of words
+unfoldable pub named : {A : Type 0} → List (String × A) → A → List ℕ → A
+named [] other r = other
+named ((w, a) ∷ table) other r = cond (is r w) a (named table other r)
 
 abbrev pub gotNumber : Number → List Token → Parsed ℕ
 gotNumber (Is v) ts = got v ts

@@ -1,6 +1,6 @@
 -- Document 01, Lines of the panel: the shapes of cells and parts. A line with another is code 14.
 use mathlib.Core.Bool.{cond}
-use mathlib.Core.List.{List, [], map}
+use mathlib.Core.List.{List, [], _∷_, map}
 use Prim.Native.Nat.{ℕ}
 use lib.ListN.{length}
 use Rattle.record.specs.declared.Mode.{Mode}
@@ -10,7 +10,7 @@ use Rattle.record.specs.declared.Cell.the-variants.{Wing, Hatch, Void}
 use Rattle.record.specs.declared.Part.{Part}
 use Rattle.record.specs.Filler.{noSlot, padded}
 use Rattle.text.specs.Token.{Token}
-use Rattle.items.specs.Grammar.{Parsed, got, none, _andThen_, head?, is, number?, nth, lastNumbers?, several?}
+use Rattle.items.specs.Grammar.{Parsed, got, none, _andThen_, head?, is, named, number?, nth, lastNumbers?, several?}
 use Rattle.parts.specs.declared.CellWord.{CellWord}
 use Rattle.parts.specs.declared.CellWord.the-variants.{WingWord, HatchWord, VoidWord}
 use Rattle.parts.specs.declared.CellNamed.{CellNamed}
@@ -18,11 +18,8 @@ use Rattle.parts.specs.declared.CellNamed.the-variants.{As, NoWord}
 
 -- a cell's word; how many numbers stand behind it, and the cell that they make:
 -- `WIDTH DIST GIRDER LIP)`, `WIDTH OPEN LIP)`, `WIDTH DEPTH LIP)`
-unfoldable pub cellNamed : List ℕ → CellNamed
-cellNamed r =
-    cond (is r "wing") (As WingWord)
-    (cond (is r "hatch") (As HatchWord)
-    (cond (is r "void") (As VoidWord) NoWord))
+abbrev pub cellNamed : List ℕ → CellNamed
+cellNamed r = named (("wing", As WingWord) ∷ ("hatch", As HatchWord) ∷ ("void", As VoidWord) ∷ []) NoWord r
 
 abbrev pub numbersOf : CellWord → ℕ
 numbersOf WingWord = 4

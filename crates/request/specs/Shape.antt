@@ -1,6 +1,5 @@
 -- Document 01, Lines of the panel: the shapes. A line that is none of them is code 14. Those of cells and parts are in parts/specs/Shape.antt.
-use mathlib.Core.Bool.{cond}
-use mathlib.Core.List.{List}
+use mathlib.Core.List.{List, [], _∷_}
 use Prim.Native.Nat.{ℕ}
 use lib.ListN.{length}
 use Rattle.record.specs.declared.Rule.{Rule}
@@ -12,7 +11,7 @@ use Rattle.record.specs.declared.Part.{Part}
 use Rattle.record.specs.declared.Hold.{Hold}
 use Rattle.record.specs.Filler.{noColumn, noPart, noHold, padded}
 use Rattle.text.specs.Token.{Token}
-use Rattle.items.specs.Grammar.{Parsed, got, none, _andThen_, open?, close?, run?, head?, is, number?, nth, lastNumbers?, several?, whole?}
+use Rattle.items.specs.Grammar.{Parsed, got, none, _andThen_, open?, close?, run?, head?, named, number?, nth, lastNumbers?, several?, whole?}
 use Rattle.parts.specs.Shape.{part?}
 use Rattle.request.specs.declared.RuleWord.{RuleWord}
 use Rattle.request.specs.declared.RuleWord.the-variants.{NewWord, OldWord}
@@ -37,8 +36,8 @@ abbrev pub holdRequest : ℕ → Hold → Request
 holdRequest n h = record { kind = HoldLine n; hold = h; column = noColumn }
 
 -- `RULE EDGE FLOOD)` behind `(ship`
-unfoldable pub ruleNamed : List ℕ → RuleNamed
-ruleNamed r = cond (is r "new") (Under NewWord) (cond (is r "old") (Under OldWord) NoRule)
+abbrev pub ruleNamed : List ℕ → RuleNamed
+ruleNamed r = named (("new", Under NewWord) ∷ ("old", Under OldWord) ∷ []) NoRule r
 
 abbrev pub ruleOf : RuleWord → ℕ → Rule
 ruleOf NewWord edge = New edge
@@ -84,11 +83,8 @@ parts? n mode ts =
     got (holdRequest n (holdRecord mode factor ps)) ws
 
 -- `N MODE ..` behind `(hold`
-unfoldable pub modeNamed : List ℕ → ModeNamed
-modeNamed r =
-    cond (is r "trimmed") (As Trimmed)
-    (cond (is r "voided") (As Voided)
-    (cond (is r "partial") (As Partial) NoMode))
+abbrev pub modeNamed : List ℕ → ModeNamed
+modeNamed r = named (("trimmed", As Trimmed) ∷ ("voided", As Voided) ∷ ("partial", As Partial) ∷ []) NoMode r
 
 abbrev pub partsBy : ℕ → ModeNamed → List Token → Parsed Request
 partsBy n (As mode) ts = parts? n mode ts
@@ -109,15 +105,19 @@ unfoldable pub bare? : Kind → List Token → Parsed Request
 bare? k ts = close? ts andThen λ u us. got (plain k) us
 
 -- a form, by its first word: its word, and the shape of what stands behind it
-unfoldable pub formWord : List ℕ → FormWord
+abbrev pub formWord : List ℕ → FormWord
 formWord r =
-    cond (is r "ship") ShipWord
-    (cond (is r "column") ColumnWord
-    (cond (is r "load") LoadWord
-    (cond (is r "hold") HoldWord
-    (cond (is r "drop") DropWord
-    (cond (is r "judge") JudgeWord
-    (cond (is r "clear") ClearWord NoWord))))))
+    named
+    (("ship", ShipWord)
+    ∷ ("column", ColumnWord)
+    ∷ ("load", LoadWord)
+    ∷ ("hold", HoldWord)
+    ∷ ("drop", DropWord)
+    ∷ ("judge", JudgeWord)
+    ∷ ("clear", ClearWord)
+    ∷ [])
+    NoWord
+    r
 
 abbrev pub formBy : FormWord → List Token → Parsed Request
 formBy ShipWord ts = ship? ts
