@@ -139,7 +139,7 @@ pub overs-some : (b : Basis) → 0 < apart b → 0 < b .load .d → (0 < exactGM
 overs-some b a d =
     (a, λ k. mul-pos a (omega arith), λ k. mul-pos a (mul-pos {m = 1000} (omega arith) (mul-pos {m = 20000} (omega arith) d)))
 
--- what the heeling arm takes from the exact righting arm is 1,000 × W × (20,000 − angle)/(20,000 × D)
+-- what is taken in the difference is what the exact righting arm takes, and the heeling arm, over the one denominator
 pub ten-takes : (b : Basis) (k : ℕ) → exactTen b k .takes ≡ exactRighting b k .takes * (20000 * b .load .d) + heelOver b k * exactRighting b k .over
 ten-takes b k = omega arith
 
