@@ -212,7 +212,7 @@ FAULTS = {
     "120_mm_per_metre": Fault("120 mm more for each metre above 8.0 m", [edit("grain", "theorem_120_mm_per_metre")]),
     "quarter_square": Fault("w × g − slope × w²/4 for what a cell holds", [edit("grain", "theorem_lip_with_quarter_square")]),
     "voided_100": Fault("100 per cent for `voided`", [edit("grain", "theorem_voided_100")]),
-    "sine_of_40": Fault("the sine of 40 degrees 642,700", [edit("stability", "theorem_sine_of_40")]),
+    "sine_of_40": Fault("the sine of 40 degrees 642,700", [edit("arms", "theorem_sine_of_40")]),
     "42_beyond_upper": Fault("42 also for an angle above UPPER", [edit("stability", "theorem_42_beyond_upper", UPPER_IN_LAWS)]),
     "43_one_more": Fault("43 below 429,718,348", [edit("stability", "theorem_area_limit_one_more", AREA_LIMIT_IN_LAWS)]),
     "42_before_41": Fault("42 tested before 41", [edit("stability", "theorem_42_before_41", ORDER_IN_LAWS)]),

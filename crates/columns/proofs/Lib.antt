@@ -1,3 +1,4 @@
 pub mod Adding
 pub mod Searching
 pub mod Order
+pub mod Standing

@@ -13,8 +13,8 @@ use Rattle.record.specs.Filler.{noColumn}
 use Rattle.columns.specs.declared.Around.the-variants.{At}
 use Rattle.columns.specs.Search.{columnsAround}
 use Rattle.stability.specs.Verdict.{verdictOf}
-use Rattle.stability.specs.Demand.{Judgeable}
-use Rattle.stability.proofs.Held.{around-at}
+use Rattle.arms.specs.Judgeable.{Judgeable}
+use Rattle.columns.proofs.Standing.{around-at}
 use Rattle.stability.proofs.Demand3.{demand3, margins}
 use Rattle.request.specs.declared.Kind.the-variants.{JudgeLine}
 use Rattle.condition.specs.declared.Condition.{Condition}

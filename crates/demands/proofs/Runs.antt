@@ -9,9 +9,9 @@ use Rattle.grain.specs.Depth.{standardDepth, wingDepth, cellDepth, cellArea}
 use Rattle.grain.specs.Section.{mostHeld, keptFrom, fitsFrom, firstMoment, highMoment, oldTwice, sectionMoment}
 use Rattle.grain.specs.Slack.{slackMoment}
 use Rattle.grain.specs.Sum.{partMoment, holdMoment, weightMoment, holdFits, totalWeight}
-use Rattle.stability.specs.Angles.{angle, sine}
-use Rattle.stability.specs.Area.{areaOver}
-use Rattle.stability.specs.Arms.{gm, knArm, kgArm, rightingArm, heelingArm, diff}
+use Rattle.arms.specs.Angles.{angle, sine}
+use Rattle.area.specs.Area.{areaOver}
+use Rattle.arms.specs.Arms.{gm, knArm, kgArm, rightingArm, heelingArm, diff}
 use Rattle.columns.specs.Search.{columnsAround}
 use Rattle.stability.specs.Verdict.{anglesBelow, diffAt, peak, failsAmong, judgedBy, verdictOf}
 use Rattle.text.specs.Token.{tokens, same, valueFrom, numberOf}

@@ -14,9 +14,9 @@ use Rattle.record.specs.declared.Load.{Load}
 use Rattle.record.specs.Held.{held}
 use Rattle.record.specs.Filler.{noColumn, noHold}
 use Rattle.grain.specs.Figures.{total, WeightMoment}
-use Rattle.stability.specs.declared.Basis.{Basis}
+use Rattle.arms.specs.declared.Basis.{Basis}
 use Rattle.stability.specs.Verdict.{judgementCode, verdictOf}
-use Rattle.stability.specs.Exact.{EveryAngle}
+use Rattle.arms.specs.Exact.{EveryAngle}
 use Rattle.stability.specs.Demand.{Demand3}
 use Rattle.stability.specs.Margins.{Margins}
 use Rattle.text.specs.declared.Number.the-variants.{Is}

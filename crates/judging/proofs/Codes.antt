@@ -19,7 +19,7 @@ use Rattle.columns.specs.Search.{columnsAround}
 use Rattle.stability.specs.declared.Judgement.{Judgement}
 use Rattle.stability.specs.declared.Judgement.the-variants.{Passed, ShortOfGm, ShortAtHeel, ShortBeyond, ShortOfArea}
 use Rattle.stability.specs.Verdict.{judgementCode, verdictOf}
-use Rattle.stability.proofs.Held.{below-outside, above-outside}
+use Rattle.columns.proofs.Standing.{below-outside, above-outside}
 use Rattle.condition.specs.declared.Condition.{Condition}
 use Rattle.judging.specs.declared.Judged.the-variants.{Refused, Given}
 use Rattle.judging.specs.Judge.{weight, basisAt, judgedAt, judgedOf, judgedCode}

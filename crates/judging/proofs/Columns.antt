@@ -12,7 +12,7 @@ use Rattle.record.proofs.Taken.{pastColumn}
 use Rattle.record.specs.declared.Columns.{Columns}
 use Rattle.record.specs.Held.{held}
 use Rattle.record.specs.Filler.{noColumn}
-use Rattle.stability.proofs.Held.{Standing, around-at}
+use Rattle.columns.proofs.Standing.{Standing, around-at}
 use Rattle.condition.specs.declared.Condition.{Condition}
 use Rattle.judging.specs.Judge.{Between}
 

@@ -22,7 +22,7 @@ use Rattle.grain.proofs.Figures.{hold-fits}
 use Rattle.columns.specs.declared.Around.{Around}
 use Rattle.columns.specs.declared.Around.the-variants.{At, Outside}
 use Rattle.columns.specs.Search.{columnsAround}
-use Rattle.stability.proofs.Held.{between-found}
+use Rattle.columns.proofs.Standing.{between-found}
 use Rattle.condition.specs.declared.Condition.{Condition}
 use Rattle.condition.specs.Condition.{isHeld}
 use Rattle.judging.specs.Judge.{soundPlace, judgedAt, judgedOf}

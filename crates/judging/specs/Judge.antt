@@ -14,7 +14,7 @@ use Rattle.record.specs.Held.{held}
 use Rattle.record.specs.Filler.{noColumn}
 use Rattle.columns.specs.Columns.{inOrder}
 use Rattle.grain.specs.Sum.{holdFits, weightMoment, totalWeight}
-use Rattle.stability.specs.declared.Basis.{Basis}
+use Rattle.arms.specs.declared.Basis.{Basis}
 use Rattle.columns.specs.declared.Around.{Around}
 use Rattle.columns.specs.declared.Around.the-variants.{At, Outside}
 use Rattle.columns.specs.Search.{columnsAround}

@@ -1,4 +1,5 @@
 // Judge: the weight moments together, the codes 30 to 34, and the verdict.
+use arms::Basis;
 use columns::Around;
 use condition::Condition;
 use grain::Weighed;
@@ -8,7 +9,6 @@ use record::Hold;
 use record::Load;
 use record::Rule;
 use record::Ship;
-use stability::Basis;
 use stability::Judgement;
 use stability::Verdict;
 ghost use mathlib.Core.Path.{_≡_};

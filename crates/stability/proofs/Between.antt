@@ -1,19 +1,14 @@
 -- Points on straight lines: between two points, rounded down, and on lines whose ends lie close.
-use mathlib.Core.Path.{_≡_, refl, ap, subst, subst₂}
+use mathlib.Core.Path.{_≡_, refl, ap, subst₂}
 use mathlib.Core.Logic.{⊎-elim}
 use Prim.Native.Nat.{ℕ, _+_, _*_, _-_, _/_, _≤_, _<_}
-use native.Mathlib.Nat.{mul-le-mul-left, mul-le-mul-right, mul-lt-mul-of-pos-left, mul-lt-mul-of-pos-right, le-of-mul-le-mul-left, le-of-mul-le-mul-right, lt-of-mul-lt-mul-right, eq-zero-or-pos, mul-comm, mul-sub, le-of-lt, le-trans, lt-of-not-le, div-mul-le-self, lt-div-mul-add}
-use native.Mathlib.Decide.{decLe}
+use native.Mathlib.Nat.{mul-le-mul-left, mul-le-mul-right, mul-lt-mul-of-pos-left, mul-lt-mul-of-pos-right, le-of-mul-le-mul-left, le-of-mul-le-mul-right, lt-of-mul-lt-mul-right, eq-zero-or-pos, mul-comm, mul-sub, le-of-lt, le-trans}
 use native.Mathlib.Omega.{arith}
-use lib.IntN.{ℤ, subℕ}
-use Rattle.whole.specs.Divide.{ceilDiv}
+use lib.IntN.{ℤ}
 use Rattle.sign.specs.Sign.{plus, minus}
-use Rattle.whole.specs.Line.{onLine, roundDown}
-use Rattle.whole.proofs.Dividing.{ceil-low, ceil-high}
-use Rattle.sign.proofs.Signs.{sub-reads}
-use Rattle.whole.proofs.Lines.{rounded-pos, rounded-neg}
-use Rattle.stability.specs.Figures.{TowardsLower}
-use Rattle.stability.proofs.Nearness.{Close}
+use Rattle.whole.specs.Line.{onLine}
+use Rattle.arms.specs.Figures.{TowardsLower}
+use Rattle.arms.proofs.Nearness.{Close}
 
 -- ---- between two points
 -- the points are t, t + i and t + i + j of a stretch t + i + j + r; the values x at its start and y at its end
@@ -71,34 +66,6 @@ between a c L U n k P₁ P₂ M₁ M₂ pk h l r u v =
         rw (finer k (c - a) (s - a) M₁ M₂ i, finer k (c - a) (s - a) P₁ P₂ i) (mul-le-mul-left k w)
 
 -- ---- rounded down: z is the whole part of (p − m)/h
-pub floor-is : (p m h : ℕ) → 0 < h → TowardsLower p m h (roundDown p m h)
-floor-is p m h ph = go (decLe m p)
-  where
-    above : (z : ℤ) → m ≤ p → plus z ≡ (p - m) / h → minus z ≡ 0 → TowardsLower p m h z
-    above z k e f =
-        record {
-          low = rw (e, f) (omega (arith, div-mul-le-self (p - m) h));
-          high = rw (e, f) (omega (arith, lt-div-mul-add {a = p - m} ph));
-        }
-
-    under : (z : ℤ) → p ≤ m → plus z ≡ 0 → minus z ≡ ceilDiv (m - p) h → TowardsLower p m h z
-    under z k e f =
-        record {
-          low = rw (e, f) (omega (arith, ceil-low (m - p) h ph));
-          high = rw (e, f) (omega (arith, ceil-high (m - p) h ph));
-        }
-
-    go : Dec (m ≤ p) → TowardsLower p m h (roundDown p m h)
-    go (yes k) =
-        let r = sub-reads ((p - m) / h) 0 in
-        subst (λ (z : ℤ). TowardsLower p m h z) (rounded-pos p m h ph k)
-        (above (subℕ ((p - m) / h) 0) k (omega (arith, r .pluses)) (omega (arith, r .minuses)))
-    go (no f) =
-        let k : p ≤ m = le-of-lt (lt-of-not-le f) in
-        let r = sub-reads 0 (ceilDiv (m - p) h) in
-        subst (λ (z : ℤ). TowardsLower p m h z) (rounded-neg p m h ph k)
-        (under (subℕ 0 (ceilDiv (m - p) h)) k (omega (arith, r .pluses)) (omega (arith, r .minuses)))
-
 -- the same quotient at another scale
 pub floor-move : (p m h P M H : ℕ) (z : ℤ) → 0 < h → 0 < H → P * h ≡ p * H → M * h ≡ m * H → TowardsLower p m h z → TowardsLower P M H z
 floor-move p m h P M H z ph pH e f k =

@@ -15,16 +15,16 @@ use Rattle.sign.specs.Sign.{AtMost, Under}
 use Rattle.whole.proofs.Lists.{and-true}
 use Rattle.sign.proofs.Signs.{lt-under, nlt-most}
 use Rattle.record.specs.declared.Ship.{Ship}
-use Rattle.stability.specs.declared.Basis.{Basis}
+use Rattle.arms.specs.declared.Basis.{Basis}
 use Rattle.stability.specs.declared.Judgement.{Judgement}
 use Rattle.stability.specs.declared.Judgement.the-variants.{Passed, ShortOfGm, ShortAtHeel, ShortBeyond, ShortOfArea}
 use Rattle.stability.specs.declared.Verdict.{Verdict}
-use Rattle.stability.specs.Angles.{angle, heelLimit}
-use Rattle.stability.specs.Arms.{gm, diffs}
-use Rattle.stability.specs.Area.{area}
-use Rattle.stability.specs.Verdict.{diffAt, upper, isBelow, failsAt, failsAmong, failsBeyond, judgedBy, judgementCode, verdictOf}
+use Rattle.arms.specs.Angles.{angle}
+use Rattle.stability.specs.Verdict.{heelLimit, diffAt, upper, isBelow, failsAt, failsAmong, failsBeyond, judgedBy, judgementCode, verdictOf}
+use Rattle.arms.specs.Arms.{gm, diffs}
+use Rattle.area.specs.Area.{area}
 use Rattle.stability.specs.Demand.{SomeAngleFails, oneOfTen, atUpper, NoneApplies, Codes, OneOfFive, is00, is40, is41, is42, is43}
-use Rattle.stability.proofs.Tens.{angle-is}
+use Rattle.arms.proofs.Tens.{angle-is}
 use Rattle.stability.proofs.Peaks.{among-found}
 
 -- ---- tests and comparisons

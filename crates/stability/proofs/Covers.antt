@@ -11,13 +11,13 @@ use Rattle.whole.proofs.Lists.{tabulate-length}
 use Rattle.record.specs.declared.Rule.{Rule}
 use Rattle.record.specs.declared.Rule.the-variants.{New, Old}
 use Rattle.record.specs.declared.Ship.{Ship}
-use Rattle.stability.specs.declared.Basis.{Basis}
-use Rattle.stability.specs.Angles.{angle, atMostEdge, heelLimit}
-use Rattle.stability.specs.Arms.{diff, diffs}
-use Rattle.stability.specs.Verdict.{peak, verdictOf}
-use Rattle.stability.specs.Exact.{angleOf, OnStretch, Lies, EveryAngle}
+use Rattle.arms.specs.declared.Basis.{Basis}
+use Rattle.arms.specs.Angles.{angle}
+use Rattle.stability.specs.Verdict.{atMostEdge, heelLimit, peak, verdictOf}
+use Rattle.arms.specs.Arms.{diff, diffs}
+use Rattle.arms.specs.Exact.{angleOf, OnStretch, Lies, EveryAngle}
 use Rattle.stability.specs.Figures.{EdgeOr1200, is1200, isEdge, HeelIs, UpperIs}
-use Rattle.stability.proofs.Tens.{angle-is, angle-zero, angle-nine, angle-le}
+use Rattle.arms.proofs.Tens.{angle-is, angle-zero, angle-nine, angle-le}
 use Rattle.stability.proofs.Peaks.{peak-is}
 
 -- ---- a stretch on which n/k lies

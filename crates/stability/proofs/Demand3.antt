@@ -10,25 +10,28 @@ use lib.Dec.{ltb}
 use lib.Signed.{ltZ}
 use lib.IntN.{pos}
 use borrow.Author.Tests.{lt-ltb, le-leb, ltb-true, ltb-false}
-use Rattle.sign.specs.Sign.{AtMost, Under}
-use Rattle.whole.specs.Frac.{_≼_, _≺_}
+use Rattle.sign.specs.Sign.{Under}
+use Rattle.whole.specs.Frac.{_≺_}
 use Rattle.sign.proofs.Signs.{lt-under, nlt-most}
 use Rattle.record.specs.declared.Ship.{Ship}
-use Rattle.stability.specs.declared.Basis.{Basis}
+use Rattle.arms.specs.declared.Basis.{Basis}
 use Rattle.stability.specs.declared.Judgement.{Judgement}
 use Rattle.stability.specs.declared.Judgement.the-variants.{Passed, ShortOfGm, ShortAtHeel, ShortBeyond, ShortOfArea}
-use Rattle.stability.specs.Angles.{angle, width, heelLimit}
-use Rattle.stability.specs.Arms.{span, fluidKG, spanKM, gm, diffs}
-use Rattle.stability.specs.Area.{plusAt, minusAt, stretchArea, areaOver, area}
-use Rattle.stability.specs.Verdict.{Stretch, diffAt, upper, isBelow, failsAmong, failsBeyond, judgedBy, judgementCode, verdictOf}
-use Rattle.stability.specs.Exact.{apart, kmOver, den, exactKN, exactTaken, OnStretch, exactTen, exactAt, NotBelow, LessThan, NotUnder, LessOver, ExactGMBelow, exactStretch, exactArea}
-use Rattle.stability.specs.Figures.{TowardsLower, AreaIs, Figures}
-use Rattle.stability.specs.Demand.{Judgeable, PassedMeans, ShortAtHeelMeans, ShortBeyondMeans, Demand3}
+use Rattle.arms.specs.Angles.{angle, width}
+use Rattle.stability.specs.Verdict.{heelLimit, Stretch, diffAt, upper, isBelow, failsAmong, failsBeyond, judgedBy, judgementCode, verdictOf}
+use Rattle.arms.specs.Arms.{gm, diffs, plusAt, minusAt}
+use Rattle.area.specs.Area.{area}
+use Rattle.arms.specs.Exact.{den, exactKN, exactTaken, OnStretch, exactAt, NotBelow, LessThan, NotUnder, LessOver, ExactGMBelow}
+use Rattle.area.specs.Exact.{exactArea}
+use Rattle.arms.specs.Figures.{TowardsLower}
+use Rattle.stability.specs.Figures.{Figures}
+use Rattle.arms.specs.Judgeable.{Judgeable}
+use Rattle.stability.specs.Demand.{PassedMeans, ShortAtHeelMeans, ShortBeyondMeans, Demand3}
 use Rattle.stability.specs.Margins.{Margins}
-use Rattle.stability.proofs.Tens.{angle-is, angle-rises, width-some}
-use Rattle.stability.proofs.Nearness.{Close, span-some, den-some, km-is, close, tenth}
-use Rattle.stability.proofs.Areas.{Near, one-lower, one-upper, area-low, area-high}
-use Rattle.stability.proofs.Between.{above-sub, between, floor-is, close-line, close-not-below, close-exceeds, floor-low, floor-high, whole-high}
+use Rattle.arms.proofs.Tens.{angle-is, angle-rises, width-some}
+use Rattle.arms.proofs.Nearness.{Close, den-some, close, tenth, ten-low, ten-high, gm-is, gm-below, gm-not-below}
+use Rattle.area.proofs.Shown.{area-is, area-never-above, area-never-far}
+use Rattle.stability.proofs.Between.{above-sub, between, close-line, close-not-below, close-exceeds, floor-low, floor-high, whole-high}
 use Rattle.stability.proofs.Covers.{heel-is, upper-is, upper-le}
 use Rattle.stability.proofs.Codes.{under-true, or-false, among-false, tenOf, named, at, codes, one-of-five}
 use Rattle.stability.proofs.Points.{lineOf, lineAlong, On, on-is, lineExact, told, along-whole, on-whole, diff-floor, rounded-along, diff-not-below, diff-below, ten-not-below, ten-below, ten-floor}
@@ -117,18 +120,6 @@ module _ (b : Basis) (jd : Judgeable b) where
             let s : Stretch (angle i) i = record { within = h; from = omega arith; to = le-of-lt rise } in
             last (angle i) s (o .from) (above-ten i i (omega arith) (le-of-lt (lt-of-not-le g)) from-up s) (decLe (angle (suc i)) up)
 
-  -- ---- the area
-  near : (k : ℕ) → k < 10 → Near (den b) (3 * den b) (plusAt (diffs b) k) (minusAt (diffs b) k) (exactKN b k) (exactTaken b k)
-  near k h = record { low = close b jd k h .low; high = le-of-lt (close b jd k h .high) }
-
-  pub area-never-above : (u : ℕ) → area (diffs b) u ≼ exactArea b u
-  area-never-above u =
-      area-low (plusAt (diffs b)) (minusAt (diffs b)) (exactKN b) (exactTaken b) 3 (den b) u (den-some b jd) near
-
-  pub area-never-far : (u : ℕ) → exactArea b u ≺ area (diffs b) u + 12009
-  area-never-far u =
-      area-high (plusAt (diffs b)) (minusAt (diffs b)) (exactKN b) (exactTaken b) 3 (den b) u (den-some b jd) near
-
   -- ---- DIFF at a whole angle
   module _ (x : ℕ) where
     floor-along : (i : ℕ) → Stretch x i → TowardsLower (lineAlong (plusAt (diffs b)) i x 1) (lineAlong (minusAt (diffs b)) i x 1) (width i * 1) (diffAt (diffs b) x)
@@ -149,44 +140,8 @@ module _ (b : Basis) (jd : Judgeable b) where
         whole-high (den b) 3 (width i * 1) (lineAlong (plusAt (diffs b)) i x 1) (lineAlong (minusAt (diffs b)) i x 1) (lineAlong (exactKN b) i x 1) (lineAlong (exactTaken b) i x 1)
         (stretch-close i x 1 h o) (diffAt (diffs b) x) (rw (mul-one (width i), mul-one (angle i), e) (ten-floor (diffs b) j i hj (rw e at (on-whole i x h o))))
 
-  -- at the ten angles
-  pub ten-low : (k : ℕ) → k < 10 → NotUnder (tenOf b k) (exactTen b k)
-  ten-low k h = omega (arith, close b jd k h .low)
-
-  pub ten-high : (k : ℕ) → k < 10 → LessOver (tenOf b k) 3 (exactTen b k)
-  ten-high k h = omega (arith, close b jd k h .high)
-
-  -- ---- GM
-  pub gm-is : TowardsLower (kmOver b) (1000 * (b .load .kg + b .load .fs) * apart b) (apart b) (gm b)
-  unfolding gm
-  gm-is = rw (km-is b jd) (floor-is (spanKM b) (1000 * fluidKG b * span b) (span b) (span-some b jd))
-
-  pub gm-below : Under (gm b) (pos 300000) → ExactGMBelow b 300000
-  gm-below u = omega (arith, gm-is .high, mul-le-mul-right (apart b) u)
-
-  pub gm-not-below : AtMost (pos 300000) (gm b) → ExactGMBelow b 300000 → ⊥
-  gm-not-below u k = omega (arith, gm-is .low, mul-le-mul-right (apart b) u)
-
 -- ---- the figures
 module _ (s : Ship) (b : Basis) (jd : Judgeable b) where
-  parts : (k : ℕ) → Near 1 0 (plusAt (diffs b) k) (minusAt (diffs b) k) (plusAt (diffs b) k) (minusAt (diffs b) k)
-  parts k = record { low = omega arith; high = omega arith }
-
-  nine : (f : ℕ → ℕ) → 0 + f 0 + f 1 + f 2 + f 3 + f 4 + f 5 + f 6 + f 7 + f 8 ≡ f 0 + f 1 + f 2 + f 3 + f 4 + f 5 + f 6 + f 7 + f 8
-  nine f = omega arith
-
-  area-is : (u : ℕ) → AreaIs (tenOf b) u (area (diffs b) u)
-  unfolding areaOver
-  area-is u =
-      let p = plusAt (diffs b) in
-      let m = minusAt (diffs b) in
-      record {
-        part = stretchArea p m u;
-        low = one-lower p m p m 0 1 u (omega arith) (λ k h. parts k);
-        high = λ k h. subst (λ (n : ℕ). exactStretch 1 p m u k ≺ n) (omega arith) (one-upper p m p m 0 1 u (omega arith) (λ k h. parts k) k h);
-        sum = nine (stretchArea p m u);
-      }
-
   pub figures : Figures s b (verdictOf s b) (heelLimit s) (tenOf b) (diffAt (diffs b))
   unfolding verdictOf
   figures =
@@ -198,7 +153,7 @@ module _ (s : Ship) (b : Basis) (jd : Judgeable b) where
         between = λ i x h o. rounded-along (diffs b) i x h o;
         shown = refl;
         upper = upper-is s b;
-        area = area-is (upper (s .flood) (diffs b));
+        area = area-is (diffs b) (upper (s .flood) (diffs b));
       }
 
 -- ---- the theorem

@@ -1,11 +1,6 @@
-pub mod Tens
-pub mod Bounds
+pub mod Stretch
 pub mod Held
 pub mod Peaks
-pub mod Stretches
-pub mod Nearness
-pub mod Plain
-pub mod Areas
 pub mod Between
 pub mod Points
 pub mod Covers

@@ -13,14 +13,16 @@ use Rattle.sign.specs.Sign.{plus, minus}
 use Rattle.whole.specs.Line.{onLine}
 use Rattle.sign.proofs.Signs.{not-below, below}
 use Rattle.whole.proofs.Lines.{line-start, line-end}
-use Rattle.stability.specs.Angles.{angle, width}
-use Rattle.stability.specs.Area.{plusAt, minusAt}
+use Rattle.arms.specs.Angles.{angle, width}
+use Rattle.arms.specs.Arms.{plusAt, minusAt}
 use Rattle.stability.specs.Verdict.{Stretch, stretchOf, diffAt, isBelow}
-use Rattle.stability.specs.Exact.{angleOf, wide, OnStretch, along, den, exactKN, exactTaken, Exact, exactAt}
-use Rattle.stability.specs.Figures.{TowardsLower}
-use Rattle.stability.specs.declared.Basis.{Basis}
-use Rattle.stability.proofs.Tens.{angle-is, angle-rises, angle-le, width-some, stretch-is}
-use Rattle.stability.proofs.Between.{sub-times, floor-is, floor-move, floor-not-below, floor-below, floor-whole}
+use Rattle.arms.specs.Exact.{angleOf, wide, OnStretch, along, den, exactKN, exactTaken, Exact, exactAt}
+use Rattle.arms.specs.Figures.{TowardsLower}
+use Rattle.arms.specs.declared.Basis.{Basis}
+use Rattle.arms.proofs.Tens.{angle-is, angle-rises, angle-le, width-some}
+use Rattle.stability.proofs.Stretch.{stretch-is}
+use Rattle.arms.proofs.Floors.{floor-is}
+use Rattle.stability.proofs.Between.{sub-times, floor-move, floor-not-below, floor-below, floor-whole}
 
 -- ---- the ten angles rise
 pub angle-up : (i j : ℕ) → i < j → j < 10 → angle i < angle j

@@ -11,16 +11,17 @@ use Rattle.whole.specs.Line.{roundDown}
 use Rattle.whole.proofs.Dividing.{ceil-le, floor-le}
 use Rattle.whole.proofs.Lines.{line-le}
 use Rattle.record.specs.declared.Ship.{Ship}
-use Rattle.stability.specs.declared.Basis.{Basis}
-use Rattle.stability.specs.Angles.{angle, width, heelLimit}
-use Rattle.stability.specs.Arms.{span, past, fluidKG, spanKM, gm, diffs}
-use Rattle.stability.specs.Area.{areaOver, counted, plusAt, minusAt}
-use Rattle.stability.specs.Verdict.{stretchOf, diffAt, verdictOf}
-use Rattle.stability.specs.Demand.{Judgeable}
-use Rattle.stability.proofs.Bounds.{column-bounds, span-some, past-le, fluid-le, diffs-bounded}
-use Rattle.stability.proofs.Tens.{width-le, width-some, stretch-is}
+use Rattle.arms.specs.declared.Basis.{Basis}
+use Rattle.arms.specs.Angles.{angle, width}
+use Rattle.stability.specs.Verdict.{heelLimit, stretchOf, diffAt, verdictOf}
+use Rattle.arms.specs.Arms.{span, past, fluidKG, spanKM, gm, diffs, plusAt, minusAt}
+use Rattle.area.specs.Area.{areaOver, counted}
+use Rattle.arms.specs.Judgeable.{Judgeable}
+use Rattle.arms.proofs.Bounds.{column-bounds, span-some, past-le, fluid-le, diffs-bounded}
+use Rattle.arms.proofs.Tens.{width-le, width-some}
+use Rattle.stability.proofs.Stretch.{stretch-is}
 use Rattle.stability.proofs.Covers.{heel-is, upper-le}
-use Rattle.stability.proofs.Stretches.{part-le}
+use Rattle.area.proofs.Stretches.{part-le}
 
 -- a quotient rounded down of numbers up to k times the divisor
 rounded-le : (p m h k : ℕ) → 0 < h → p ≤ k * h → m ≤ k * h → (plus (roundDown p m h) ≤ k) × (minus (roundDown p m h) ≤ k)

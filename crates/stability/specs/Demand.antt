@@ -1,32 +1,18 @@
 -- Demand 3: when each code is given, by the figures shown; and what it says of the exact values. Proved of every ship and of every basis
 -- that is `Judgeable`.
 use mathlib.Core.Path.{_≡_}
-use mathlib.Core.Bool.{true}
 use mathlib.Core.Logic.{_↔_}
 use Prim.Native.Nat.{ℕ, _+_, _*_, _≤_, _<_}
 use lib.IntN.{ℤ, pos}
-use lib.ListN.{length}
 use Rattle.whole.specs.Frac.{_≼_, _≺_}
 use Rattle.sign.specs.Sign.{AtMost, Under}
 use Rattle.record.specs.declared.Ship.{Ship}
-use Rattle.limits.specs.Limits.{loadLimits, columnLimits}
-use Rattle.stability.specs.declared.Basis.{Basis}
+use Rattle.arms.specs.declared.Basis.{Basis}
 use Rattle.stability.specs.declared.Verdict.{Verdict}
 use Rattle.stability.specs.Verdict.{judgementCode, verdictOf}
-use Rattle.stability.specs.Exact.{angleOf, OnStretch, exactAt, NotBelow, LessThan, ExactGMBelow, exactArea}
+use Rattle.arms.specs.Exact.{angleOf, OnStretch, exactAt, NotBelow, LessThan, ExactGMBelow}
+use Rattle.area.specs.Exact.{exactArea}
 use Rattle.stability.specs.Figures.{Figures}
-
--- two columns around D, a load and a weight moment within their limits
-pub record Judgeable (b : Basis) : Type 0 where
-  pub low : columnLimits (b .low) ≡ true
-  pub high : columnLimits (b .high) ≡ true
-  pub tenLow : length (b .low .kn) ≡ 10
-  pub tenHigh : length (b .high .kn) ≡ 10
-  pub load : loadLimits (b .load) ≡ true
-  pub apart : b .low .d < b .high .d
-  pub from : b .low .d ≤ b .load .d
-  pub to : b .load .d ≤ b .high .d
-  pub weight : b .weight ≤ 1000000000
 
 -- A verdict v, the heel limit, DIFF at the k-th of the ten angles (`ten k`) and DIFF at a whole angle x (`diff x`): what they are is
 -- said in Figures.antt.

@@ -1,9 +1,4 @@
-pub mod Angles
-pub mod Arms
-pub mod Area
 pub mod Verdict
-pub mod Exact
 pub mod Figures
 pub mod Demand
 pub mod Margins
-pub mod Walk

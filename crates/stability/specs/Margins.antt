@@ -4,10 +4,11 @@ use Prim.Native.Nat.{ℕ, _+_, _<_}
 use lib.IntN.{ℤ}
 use Rattle.whole.specs.Frac.{_≼_, _≺_}
 use Rattle.record.specs.declared.Ship.{Ship}
-use Rattle.stability.specs.declared.Basis.{Basis}
+use Rattle.arms.specs.declared.Basis.{Basis}
 use Rattle.stability.specs.declared.Verdict.{Verdict}
 use Rattle.stability.specs.Verdict.{verdictOf}
-use Rattle.stability.specs.Exact.{angleOf, OnStretch, exactTen, exactAt, NotUnder, LessOver, exactArea}
+use Rattle.arms.specs.Exact.{angleOf, OnStretch, exactTen, exactAt, NotUnder, LessOver}
+use Rattle.area.specs.Exact.{exactArea}
 use Rattle.stability.specs.Figures.{Figures}
 
 -- AREA ≤ exact area < AREA + 12,009. At each of the ten angles DIFF ≤ exact difference < DIFF + 3. At the heel limit DIFF ≤ exact

@@ -8,14 +8,29 @@ use lib.Signed.{ltZ}
 use lib.IntN.{ℤ, pos}
 use Rattle.sign.specs.Sign.{AtMost, Under}
 use Rattle.whole.specs.Line.{lineAt}
+use Rattle.record.specs.declared.Rule.{Rule}
+use Rattle.record.specs.declared.Rule.the-variants.{New, Old}
 use Rattle.record.specs.declared.Ship.{Ship}
-use Rattle.stability.specs.declared.Basis.{Basis}
+use Rattle.arms.specs.declared.Basis.{Basis}
 use Rattle.stability.specs.declared.Judgement.{Judgement}
 use Rattle.stability.specs.declared.Judgement.the-variants.{Passed, ShortOfGm, ShortAtHeel, ShortBeyond, ShortOfArea}
 use Rattle.stability.specs.declared.Verdict.{Verdict}
-use Rattle.stability.specs.Angles.{angle, width, heelLimit}
-use Rattle.stability.specs.Arms.{gm, diffs}
-use Rattle.stability.specs.Area.{area}
+use Rattle.arms.specs.Angles.{angle, width}
+use Rattle.arms.specs.Arms.{gm, diffs}
+use Rattle.area.specs.Area.{area}
+
+-- under `new`, EDGE; under `old` no angle
+abbrev pub atMostEdge : Rule → ℕ → ℕ
+atMostEdge (New edge) x = min x edge
+atMostEdge (Old edge) x = x
+
+-- the greatest heel, 12 degrees
+abbrev pub greatestHeel : ℕ
+greatestHeel = 1200
+
+-- the heel limit: that; under `new`, EDGE if smaller
+abbrev pub heelLimit : Ship → ℕ
+heelLimit s = atMostEdge (s .rule) greatestHeel
 
 -- the greatest k from 1 to n with the k-th angle below x, or 0
 unfoldable pub anglesBelow : (n x : ℕ) → ℕ

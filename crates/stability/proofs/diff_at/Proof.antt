@@ -8,9 +8,10 @@ use mir.Syntax.{w64}
 use lib.ListN.{getD}
 use lib.IntN.{pos}
 use borrow.Author.Needs.{sfits-of}
-use Rattle.stability.specs.Angles.{angle}
+use Rattle.arms.specs.Angles.{angle}
 use Rattle.stability.specs.Verdict.{stretchOf, diffAt}
-use Rattle.stability.proofs.Tens.{stretch-is, angle-rises, width-some, width-le}
+use Rattle.stability.proofs.Stretch.{stretch-is}
+use Rattle.arms.proofs.Tens.{angle-rises, width-some, width-le}
 use borrow.Author.Needs.{needs}
 use Rattle.stability.proofs.diff_at.Statement.{statement}
 use Rattle.stability.proofs.diff_at.Tie as tie

@@ -10,7 +10,7 @@ use lib.IntN.{ℤ, pos}
 use mir.Facts.{toZ-ofZ}
 use mir.Syntax.{w64}
 use borrow.Author.Needs.{sfits-of}
-use Rattle.stability.specs.Angles.{angle}
+use Rattle.arms.specs.Angles.{angle}
 use Rattle.stability.specs.Verdict.{isBelow, failsAt, failsAmong}
 use Rattle.stability.proofs.Peaks.{among-none, among-found, among-more}
 use Rattle.stability.proofs.fails_among.Statement.{statement}

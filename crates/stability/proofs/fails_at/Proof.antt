@@ -6,7 +6,7 @@ use mir.Facts.{toZ-ofZ}
 use lib.Signed.{ltZ}
 use lib.IntN.{ℤ, pos}
 use borrow.Author.Tests.{lt-ltb, le-ltb, lt-leb, le-leb}
-use Rattle.stability.specs.Angles.{angle}
+use Rattle.arms.specs.Angles.{angle}
 use borrow.Author.Needs.{needs}
 use Rattle.stability.proofs.fails_at.Statement.{statement}
 use Rattle.stability.proofs.fails_at.Tie as tie

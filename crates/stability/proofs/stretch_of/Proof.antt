@@ -4,7 +4,7 @@ use mathlib.Core.Path.{_≡_, sym, _∙_}
 use Prim.Native.Nat.{_≤_}
 use native.Mathlib.Omega.{arith}
 use Rattle.stability.specs.Verdict.{anglesBelow, stretchOf}
-use Rattle.stability.proofs.Tens.{below-found, below-next, below-none}
+use Rattle.stability.proofs.Stretch.{below-found, below-next, below-none}
 use Rattle.stability.proofs.stretch_of.Statement.{statement}
 use Rattle.stability.proofs.stretch_of.Tie as tie
 

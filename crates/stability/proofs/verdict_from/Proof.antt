@@ -6,9 +6,9 @@ use mir.Facts.{toZ-ofZ}
 use mir.Syntax.{w64}
 use borrow.Author.Needs.{sfits-of}
 use lib.ListN.{length}
-use Rattle.stability.specs.Angles.{angle}
+use Rattle.arms.specs.Angles.{angle}
 use Rattle.stability.specs.Verdict.{upper}
-use Rattle.stability.proofs.Tens.{angle-le}
+use Rattle.arms.proofs.Tens.{angle-le}
 use Rattle.stability.proofs.Peaks.{peak-is}
 use borrow.Author.Needs.{needs}
 use Rattle.stability.proofs.verdict_from.Statement.{statement}

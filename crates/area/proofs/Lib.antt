@@ -1,0 +1,4 @@
+pub mod Stretches
+pub mod Plain
+pub mod Areas
+pub mod Shown

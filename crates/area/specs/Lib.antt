@@ -1,0 +1,4 @@
+pub mod Area
+pub mod Exact
+pub mod Figures
+pub mod Walk
