@@ -93,9 +93,9 @@ def printed_limits(paper):
 
 
 def program_limits(crate):
-    """The same as crates/lines names them, where the program of a crate hands these to the service."""
-    if "service::serve(lines::most_lines(), lines::most_bytes());" not in (support.CRATES / crate / "src" / "main.rt").read_text():
+    """The same as crates/input names them, where the program of a crate hands these to the service."""
+    if "service::serve(input::most_lines(), input::most_bytes());" not in (support.CRATES / crate / "src" / "main.rt").read_text():
         return None
-    named = (support.CRATES / "lines" / "specs" / "Lines.antt").read_text()
+    named = (support.CRATES / "input" / "specs" / "Lines.antt").read_text()
     found = [re.search(rf"^{name} = (\d+)$", named, re.MULTILINE) for name in ("mostLines", "mostBytes")]
     return tuple(int(one[1]) for one in found) if all(found) else None

@@ -9,15 +9,12 @@ use Rattle.line_codes.proofs.Order.{first-bytes, too-long}
 use Rattle.condition.specs.declared.Condition.{Condition}
 use Rattle.condition.specs.Condition.{empty}
 use Rattle.panel.specs.Step.{stepOf, conditionAfter}
+use Rattle.input.specs.Lines.{Cut, cut, lineLength}
+use Rattle.input.proofs.Cutting.{by-count, cut-none, cut-line, front, front-none, cut-join}
 use Rattle.lines.specs.declared.Feed.{Feed}
-use Rattle.lines.specs.Lines.{Cut, cut, sent, repliesTo}
-use Rattle.lines.specs.Taking.{lineLength, LinesTaken, LineTaken, Stands, Moves}
-use Rattle.lines.proofs.Cutting.{cut-none, cut-line, front, front-none, cut-join, sent-on, replied-on, none-sent, none-replied, one-sent, one-replied}
-
--- ---- none, or at least one
-pub by-count : {P : Type 0} (n : ℕ) → (n ≡ 0 → P) → (0 < n → P) → P
-by-count zero z p = z refl
-by-count (suc n) z p = p (omega arith)
+use Rattle.lines.specs.Replies.{sent, repliesTo}
+use Rattle.lines.specs.Taking.{LinesTaken, LineTaken, Stands, Moves}
+use Rattle.lines.proofs.Taking.{sent-on, replied-on, none-sent, none-replied, one-sent, one-replied}
 
 -- ---- a line that is kept: its first 2,001 bytes are enough
 pub short-line : (c : Condition) (l : List ℕ) (n : ℕ) → stepOf c (take 2001 l) n ≡ stepOf c l n

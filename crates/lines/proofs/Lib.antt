@@ -1,4 +1,3 @@
-pub mod Cutting
+pub mod Taking
 pub mod Blocks
 pub mod Pieces
-pub mod Limits

@@ -7,12 +7,13 @@ use native.Mathlib.Numerals.{add-one}
 use lib.ListN.{length, take, drop, set, length-take, length-drop}
 use lib.Seq.{take-all, take-nil, take-suc-set}
 use Rattle.panel.specs.Step.{stepOf}
+use Rattle.input.specs.Lines.{Cut, cut, NoNewline, lineLength, between}
+use Rattle.input.proofs.Cutting.{by-count, bytes-before, cut-none, begun-newlines, cut-join, cut-line, front-none, front, between-on, between-none, line-uncut, line-with}
 use Rattle.lines.specs.declared.Feed.{Feed}
 use Rattle.lines.specs.declared.Taken.{Taken}
-use Rattle.lines.specs.Lines.{Cut, cut, NoNewline}
-use Rattle.lines.specs.Taking.{lineLength, between, LinesTaken, FromBlock, LineTaken, BegunTaken, Moves, FirstMoved, BlockMoved}
-use Rattle.lines.proofs.Cutting.{bytes-before, cut-none, begun-newlines, cut-join, cut-line, front-none, none-sent, none-replied, one-sent, one-replied, front, between-on, between-none, line-uncut, line-with, taken-none, taken-more}
-use Rattle.lines.proofs.Blocks.{by-count, no-lines, take-front, stands-full, stands-on, stands-lines, stands-line, moves-on}
+use Rattle.lines.specs.Taking.{LinesTaken, FromBlock, LineTaken, BegunTaken, Moves, FirstMoved, BlockMoved}
+use Rattle.lines.proofs.Taking.{none-sent, none-replied, one-sent, one-replied, taken-none, taken-more}
+use Rattle.lines.proofs.Blocks.{no-lines, take-front, stands-full, stands-on, stands-lines, stands-line, moves-on}
 
 -- ---- the loop over a block's lines, at i
 pub record TakingAt (f : Feed) (block : List ℕ) (at : ℕ) (out₀ : List ℕ) (r : Feed) (i : ℕ) (out : List ℕ) : Type 0 where

@@ -1,3 +1,2 @@
-pub mod Lines
+pub mod Replies
 pub mod Taking
-pub mod Limits

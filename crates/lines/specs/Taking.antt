@@ -1,25 +1,15 @@
 -- What is taken from a block of input: its lines in their order, their replies behind those that wait, and where the service stands then.
 use mathlib.Core.Path.{_≡_}
-use mathlib.Core.Bool.{cond}
-use mathlib.Core.List.{List, [], _∷_, _++_}
-use Prim.Native.Nat.{ℕ, suc, _+_, _-_, _≤_, _<_}
-use lib.Dec.{eqb}
+use mathlib.Core.List.{List, [], _++_}
+use Prim.Native.Nat.{ℕ, _+_, _-_, _≤_, _<_}
 use lib.ListN.{length, take, drop}
 use Rattle.condition.specs.Condition.{empty}
 use Rattle.panel.specs.declared.Replied.{Replied}
 use Rattle.panel.specs.Step.{Outcome, stepOf, conditionAfter}
+use Rattle.input.specs.Lines.{cut, NoNewline, between}
 use Rattle.lines.specs.declared.Feed.{Feed}
 use Rattle.lines.specs.declared.Taken.{Taken}
-use Rattle.lines.specs.Lines.{newline, cut, NoNewline, sent, repliesTo}
-
--- how many bytes stand before the first byte 10
-unfoldable pub lineLength : List ℕ → ℕ
-lineLength [] = 0
-lineLength (b ∷ s) = cond (eqb b newline) 0 (suc (lineLength s))
-
--- the bytes of a block from one place up to another
-abbrev pub between : List ℕ → ℕ → ℕ → List ℕ
-between block i j = take (j - i) (drop i block)
+use Rattle.lines.specs.Replies.{sent, repliesTo}
 
 -- ---- lines from a block
 

@@ -1,15 +1,12 @@
-// Lines taken from blocks of input, with their replies behind those that wait, and what the two limits say. Nothing here reads or writes.
+// Lines taken from blocks of input, with their replies behind those that wait. Nothing here reads or writes.
 use condition::Condition;
 use panel::Heard;
 use panel::Replied;
 ghost use mathlib.Core.Path.{_≡_};
-ghost use mathlib.Core.List.{_++_};
-ghost use Prim.Native.Nat.{_+_, _-_, _≤_, _<_};
-ghost use lib.ListN.{length, take, drop};
+ghost use Prim.Native.Nat.{_+_, _≤_, _<_};
+ghost use lib.ListN.{length, take};
 ghost use Rattle.panel.specs.Answering.{heardOutcome};
-ghost use Rattle.lines.specs.Lines.{mostLines, mostBytes};
-ghost use Rattle.lines.specs.Taking.{lineLength, FromBlock, RepliedBehind, BegunTaken, Room, FirstMoved, BlockMoved};
-ghost use Rattle.lines.specs.Limits.{Asked, ToldIs};
+ghost use Rattle.lines.specs.Taking.{FromBlock, RepliedBehind, BegunTaken, Room, FirstMoved, BlockMoved};
 
 // What goes from block to block, beside the kept bytes of a line and the replies: the condition, the lines that may still be
 // taken, how many bytes of a line that has begun are kept, and how many bytes of replies wait.
@@ -26,67 +23,7 @@ pub struct Taken {
     pub at: usize,
 }
 
-// What a read tells: the input goes on; the line that has begun is its last; no line more.
-pub enum Told {
-    Goes,
-    LastLine,
-    NoMore,
-}
-
 // ---- lines of a block
-
-// The place of the next byte 10 from `at` on, or the block's end: four bytes in a turn.
-fn line_end(block: &[u8], at: usize) -> usize
-    requires { ⌜ at ≤ length (now block) ⌝ }
-    ensures { λ r. ⌜ r ≡ at + lineLength (drop at (now (block .entry))) ⌝ }
-    ensures { λ r. ⌜ r ≤ length (now (block .entry)) ⌝ }
-{
-    let mut e = at;
-    while 4 <= block.len() - e {
-        if block[e] == b'\n' {
-            return e;
-        }
-        let second = e + 1;
-        if block[second] == b'\n' {
-            return second;
-        }
-        let third = second + 1;
-        if block[third] == b'\n' {
-            return third;
-        }
-        let fourth = third + 1;
-        if block[fourth] == b'\n' {
-            return fourth;
-        }
-        e = fourth + 1;
-    }
-    last_end(block, e)
-}
-
-// The same, byte by byte.
-fn last_end(block: &[u8], at: usize) -> usize
-    requires { ⌜ at ≤ length (now block) ⌝ }
-    ensures { λ r. ⌜ r ≡ at + lineLength (drop at (now (block .entry))) ⌝ }
-    ensures { λ r. ⌜ r ≤ length (now (block .entry)) ⌝ }
-{
-    let mut e = at;
-    while e < block.len() {
-        if block[e] == b'\n' {
-            return e;
-        }
-        e += 1;
-    }
-    e
-}
-
-// The place behind a byte of the block. Apart, so that the loop over lines knows at once that it is no further than the block's end.
-fn behind(block: &[u8], at: usize) -> usize
-    requires { ⌜ at < length (now block) ⌝ }
-    ensures { λ r. ⌜ r ≡ at + 1 ⌝ }
-    ensures { λ r. ⌜ r ≤ length (now (block .entry)) ⌝ }
-{
-    at + 1
-}
 
 // One line: its reply goes behind those that wait.
 fn answer_line(c: Condition, h: Heard, out: &mut [u8], filled: usize) -> Replied
@@ -110,7 +47,7 @@ fn take_lines(f: Feed, block: &[u8], at: usize, out: &mut [u8]) -> Taken
         if 65440 < filled {
             return stopped(c, left, used, filled, i);
         }
-        let e = line_end(block, i);
+        let e = input::line_end(block, i);
         if block.len() <= e {
             return stopped(c, left, used, filled, i);
         }
@@ -119,7 +56,7 @@ fn take_lines(f: Feed, block: &[u8], at: usize, out: &mut [u8]) -> Taken
         let long = r.len;
         filled += long;
         left -= 1;
-        i = behind(block, e);
+        i = input::behind(block, e);
         if r.code == 0 {
             let q = h.request;
             c = panel::effect(c, q);
@@ -143,25 +80,6 @@ fn stopped(cond: Condition, left: u64, used: usize, filled: usize, at: usize) ->
 
 // ---- the line that has begun, and the block's last
 
-// Keeps of a piece what has room behind the first `used` bytes of the line, 2,001 in all: how many are kept then.
-fn keep(line: &mut [u8], used: usize, piece: &[u8]) -> usize
-    requires { ⌜ (used ≤ 2001) × (length (now line) ≡ 2002) ⌝ }
-    ensures { λ r. ⌜ take r (now (line .exit)) ≡ take 2001 (take used (now (line .entry)) ++ now (piece .entry)) ⌝ }
-    ensures { λ r. ⌜ r ≤ 2001 ⌝ }
-{
-    let mut u = used;
-    let mut i = 0;
-    while i < piece.len() {
-        if 2001 <= u {
-            return u;
-        }
-        line[u] = piece[i];
-        u += 1;
-        i += 1;
-    }
-    u
-}
-
 // The line that has begun is ended: with byte 10 behind it, it is taken as a block of its own.
 pub fn take_begun(f: Feed, line: &mut [u8], out: &mut [u8]) -> Feed
     requires { ⌜ Room f (now line) (now out) ⌝ }
@@ -184,14 +102,14 @@ fn first_line(f: Feed, block: &[u8], at: usize, line: &mut [u8], out: &mut [u8])
     if f.used == 0 {
         return Taken { feed: f, at };
     }
-    let e = line_end(block, at);
+    let e = input::line_end(block, at);
     let mut g = f;
-    g.used = keep(line, f.used, &block[at..e]);
+    g.used = input::keep(line, f.used, &block[at..e]);
     if block.len() <= e {
         return Taken { feed: g, at: e };
     }
     let feed = take_begun(g, line, out);
-    let next = behind(block, e);
+    let next = input::behind(block, e);
     Taken { feed, at: next }
 }
 
@@ -213,54 +131,6 @@ pub fn feed_block(f: Feed, block: &[u8], at: usize, line: &mut [u8], out: &mut [
         return t;
     }
     let rest = t.at;
-    g.used = keep(line, g.used, &block[rest..]);
+    g.used = input::keep(line, g.used, &block[rest..]);
     Taken { feed: g, at: all }
-}
-
-// ---- the limits
-
-// Document 01's limits of lines and bytes.
-pub fn most_lines() -> u64
-    ensures { λ r. ⌜ r ≡ mostLines ⌝ }
-{
-    4000000000
-}
-
-pub fn most_bytes() -> u64
-    ensures { λ r. ⌜ r ≡ mostBytes ⌝ }
-{
-    9000000000000
-}
-
-// How many bytes are asked for next, where `left` lines and `more` bytes may still come and `used` bytes of a line are kept.
-pub fn to_ask(left: u64, used: usize, more: u64) -> usize
-    ensures { λ r. ⌜ Asked left used more r ⌝ }
-{
-    if left == 0 {
-        return 0;
-    }
-    if 0 < more {
-        return choice::smaller(more, 65536) as usize;
-    }
-    if used == 0 {
-        return 0;
-    }
-    1
-}
-
-// What a read of `got` bytes tells.
-pub fn tell(used: usize, more: u64, got: usize) -> Told
-    requires { ⌜ (0 < more → got ≤ more) ⌝ }
-    ensures { λ r. ⌜ ToldIs used more got r ⌝ }
-{
-    if got == 0 {
-        if used == 0 {
-            return Told::NoMore;
-        }
-        return Told::LastLine;
-    }
-    if more == 0 {
-        return Told::NoMore;
-    }
-    Told::Goes
 }

@@ -1,4 +1,4 @@
 // The grain loading panel on standard input and output, within document 01's limits of lines and bytes.
 fn main() {
-    service::serve(lines::most_lines(), lines::most_bytes());
+    service::serve(input::most_lines(), input::most_bytes());
 }

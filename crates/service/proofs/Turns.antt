@@ -9,13 +9,15 @@ use lib.Seq.{drop-drop}
 use Rattle.whole.proofs.Lists.{drop-end}
 use Rattle.condition.specs.Condition.{empty}
 use Rattle.panel.specs.Step.{stepOf, conditionAfter}
+use Rattle.input.specs.declared.Told.the-variants.{LastLine, NoMore}
+use Rattle.input.specs.Lines.{cut, between}
+use Rattle.input.specs.Limits.{HasRead, Asked, ToldIs}
+use Rattle.input.proofs.Cutting.{cut-law, front-newlines}
 use Rattle.lines.specs.declared.Feed.{Feed}
 use Rattle.lines.specs.declared.Taken.{Taken}
-use Rattle.lines.specs.declared.Told.the-variants.{LastLine, NoMore}
-use Rattle.lines.specs.Lines.{cut, sent, repliesTo}
-use Rattle.lines.specs.Taking.{between, BegunTaken, Stands, BlockMoved}
-use Rattle.lines.specs.Limits.{HasRead, Asked, ToldIs}
-use Rattle.lines.proofs.Cutting.{cut-law, front-newlines, sent-on, replied-on, one-sent, one-replied}
+use Rattle.lines.specs.Replies.{sent, repliesTo}
+use Rattle.lines.specs.Taking.{BegunTaken, Stands, BlockMoved}
+use Rattle.lines.proofs.Taking.{sent-on, replied-on, one-sent, one-replied}
 use Rattle.lines.proofs.Blocks.{short-line}
 use Rattle.service.specs.Serving.{Serving, Over}
 

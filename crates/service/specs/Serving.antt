@@ -6,8 +6,9 @@ use Prim.Native.Nat.{ℕ, _+_, _≤_}
 use lib.ListN.{length, take, drop}
 use Rattle.condition.specs.Condition.{empty}
 use Rattle.panel.specs.Step.{conditionAfter}
+use Rattle.input.specs.Lines.{linesOf}
 use Rattle.lines.specs.declared.Feed.{Feed}
-use Rattle.lines.specs.Lines.{linesOf, sent, repliesTo}
+use Rattle.lines.specs.Replies.{sent, repliesTo}
 use Rattle.lines.specs.Taking.{Stands}
 
 -- between two turns: of what was read, `more` bytes short of the limit, the lines of `input` were taken, and `rest` waits in the block;

@@ -1,6 +1,6 @@
 // Lines from standard input to the panel, and its replies to standard output: `serve` alone reads and writes.
+use input::Told;
 use lines::Feed;
-use lines::Told;
 ghost use mathlib.Core.Path.{_≡_};
 ghost use mathlib.Core.List.{[]};
 ghost use Prim.Native.Nat.{_≤_};
@@ -99,14 +99,14 @@ pub fn serve(max_lines: u64, max_bytes: u64) {
             at = t.at;
             continue;
         }
-        let ask = lines::to_ask(f.left, f.used, more);
+        let ask = input::to_ask(f.left, f.used, more);
         if ask == 0 {
             going = false;
             continue;
         }
         n = fetch(&mut block, ask);
         at = 0;
-        match lines::tell(f.used, more, n) {
+        match input::tell(f.used, more, n) {
             Told::Goes => more -= n as u64,
             Told::NoMore => going = false,
             Told::LastLine => {

@@ -4,8 +4,8 @@ use Prim.Native.Nat.{_-_}
 use native.Mathlib.Omega.{arith}
 use lib.ListN.{length}
 use Rattle.panel.proofs.Answers.{heard-as, answer-kept, answer-effect}
-use Rattle.lines.specs.Taking.{between}
-use Rattle.lines.proofs.Cutting.{no-line}
+use Rattle.input.specs.Lines.{between}
+use Rattle.input.proofs.Cutting.{no-line}
 use Rattle.lines.proofs.Pieces.{TakingAt, taking-first, taking-line, taking-ends}
 use borrow.Author.Needs.{needs}
 use Rattle.lines.proofs.take_lines.Statement.{statement}

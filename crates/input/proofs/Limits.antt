@@ -1,16 +1,15 @@
 -- Laws of the two limits: which lines are taken of an input and whatever follows it.
 use mathlib.Core.Path.{_≡_, refl, sym, _∙_, ap}
 use mathlib.Core.List.{List, [], _∷_, _++_, append-nil, append-assoc}
-use Prim.Native.Nat.{ℕ, suc, _+_, _-_, _≤_, _<_, min}
+use Prim.Native.Nat.{ℕ, suc, _+_, _≤_, _<_, min}
 use native.Mathlib.Omega.{arith}
 use lib.ListN.{length, take, length-append}
 use lib.Seq.{take-all, take-at, take-append-add, take-append-le}
 use borrow.Author.Tests.{le-leb, lt-leb}
-use Rattle.lines.specs.declared.Told.the-variants.{LastLine, NoMore}
-use Rattle.lines.specs.Lines.{cut, lastLine, linesOf}
-use Rattle.lines.specs.Limits.{HasRead, Asked, ToldIs}
-use Rattle.lines.proofs.Cutting.{cut-join}
-use Rattle.lines.proofs.Blocks.{by-count}
+use Rattle.input.specs.declared.Told.the-variants.{LastLine, NoMore}
+use Rattle.input.specs.Lines.{cut, lastLine, linesOf}
+use Rattle.input.specs.Limits.{HasRead, Asked, ToldIs}
+use Rattle.input.proofs.Cutting.{by-count, cut-join}
 
 no-bytes : (l : List ℕ) → length l ≡ 0 → l ≡ []
 no-bytes [] e = refl

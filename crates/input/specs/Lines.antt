@@ -1,12 +1,10 @@
 -- Document 01, Lines of the panel: what the lines of an input are.
 use mathlib.Core.Path.{_≡_}
 use mathlib.Core.Bool.{cond}
-use mathlib.Core.List.{List, [], _∷_, _++_, map}
-use Prim.Native.Nat.{ℕ, _<_}
+use mathlib.Core.List.{List, [], _∷_, _++_}
+use Prim.Native.Nat.{ℕ, suc, _-_, _<_}
 use lib.Dec.{eqb, leb}
-use lib.ListN.{length, getD, take}
-use Rattle.condition.specs.declared.Condition.{Condition}
-use Rattle.panel.specs.Step.{Outcome, Sent, outcomes}
+use lib.ListN.{length, getD, take, drop}
 
 -- the service reads at most 4,000,000,000 lines, and at most 9,000,000,000,000 bytes
 abbrev pub mostLines : ℕ
@@ -66,14 +64,13 @@ linesOf maxLines maxBytes input =
     take maxLines
     (cut (take maxBytes input) .lines ++ cond (leb (length input) maxBytes) (lastLine (cut input .rest)) [])
 
--- lines sent to the panel, each with a buffer that is long enough
-abbrev pub sent : List (List ℕ) → List Sent
-sent ls = map (λ l. record { line = l; lent = 96 }) ls
+-- ---- lines of a block of input
 
--- the replies to lines, one behind the other, in their order
-unfoldable pub together : List Outcome → List ℕ
-together [] = []
-together (o ∷ os) = o .reply ++ together os
+-- how many bytes stand before the first byte 10
+unfoldable pub lineLength : List ℕ → ℕ
+lineLength [] = 0
+lineLength (b ∷ s) = cond (eqb b newline) 0 (suc (lineLength s))
 
-abbrev pub repliesTo : Condition → List (List ℕ) → List ℕ
-repliesTo c ls = together (outcomes c (sent ls))
+-- the bytes of a block from one place up to another
+abbrev pub between : List ℕ → ℕ → ℕ → List ℕ
+between block i j = take (j - i) (drop i block)

@@ -1,14 +1,14 @@
 -- `keep`: keeps of a piece what has room behind the first `used` bytes of the line, 2,001 in all: how many are kept then.
 use mathlib.Core.List.{append-nil, _++_}
-use Rattle.lines.proofs.Cutting.{kept-more, kept-all, kept-rest}
+use Rattle.input.proofs.Cutting.{kept-more, kept-all, kept-rest}
 use Prim.Native.Nat.{_≤_, _-_, _+_}
 use native.Mathlib.Omega.{arith}
 use mathlib.Core.Path.{_≡_, sym, _∙_}
 use lib.ListN.{length, take, length-set}
 use lib.Seq.{length-take-le}
 use borrow.Author.Needs.{needs}
-use Rattle.lines.proofs.keep.Statement.{statement}
-use Rattle.lines.proofs.keep.Tie as tie
+use Rattle.input.proofs.keep.Statement.{statement}
+use Rattle.input.proofs.keep.Tie as tie
 
 abbrev Inv-loop : tie.InvT-loop
 Inv-loop line₀ used piece u₀ i₀ line u i = (i ≤ length piece) × (u ≡ used + i) × (u ≤ 2001) × (length line ≡ 2002) × (length line₀ ≡ 2002) × (take u line ≡ take used line₀ ++ take i piece)

@@ -1,13 +1,13 @@
 -- `last_end`: the same, byte by byte.
-use Rattle.lines.specs.Taking.{lineLength}
-use Rattle.lines.proofs.Cutting.{line-out, line-stop, line-on}
+use Rattle.input.specs.Lines.{lineLength}
+use Rattle.input.proofs.Cutting.{line-out, line-stop, line-on}
 use Prim.Native.Nat.{_≤_, _-_, _+_}
 use native.Mathlib.Omega.{arith}
 use mathlib.Core.Path.{_≡_}
 use lib.ListN.{length, drop}
 use borrow.Author.Needs.{needs}
-use Rattle.lines.proofs.last_end.Statement.{statement}
-use Rattle.lines.proofs.last_end.Tie as tie
+use Rattle.input.proofs.last_end.Statement.{statement}
+use Rattle.input.proofs.last_end.Tie as tie
 
 abbrev Inv-loop : tie.InvT-loop
 Inv-loop block at e₀ e = (at ≤ e) × (e ≤ length block) × (e + lineLength (drop e block) ≡ at + lineLength (drop at block))

@@ -3,9 +3,9 @@ use mathlib.Core.Path.{_≡_}
 use mathlib.Core.List.{List, [], _∷_, _++_}
 use Prim.Native.Nat.{ℕ, _+_, _-_, _≤_, _<_, min}
 use lib.ListN.{length, take}
-use Rattle.lines.specs.declared.Told.{Told}
-use Rattle.lines.specs.declared.Told.the-variants.{Goes, LastLine, NoMore}
-use Rattle.lines.specs.Lines.{cut, linesOf}
+use Rattle.input.specs.declared.Told.{Told}
+use Rattle.input.specs.declared.Told.the-variants.{Goes, LastLine, NoMore}
+use Rattle.input.specs.Lines.{cut, linesOf}
 
 -- the lines that are taken so far: those that a byte 10 has ended
 abbrev pub takenSoFar : ℕ → List ℕ → List (List ℕ)

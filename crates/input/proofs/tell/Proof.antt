@@ -1,8 +1,8 @@
 -- `tell`: what a read of `got` bytes tells.
 use native.Mathlib.Omega.{arith}
-use Rattle.lines.proofs.Limits.{told-none, told-last, told-short}
-use Rattle.lines.proofs.tell.Statement.{statement}
-use Rattle.lines.proofs.tell.Tie as tie
+use Rattle.input.proofs.Limits.{told-none, told-last, told-short}
+use Rattle.input.proofs.tell.Statement.{statement}
+use Rattle.input.proofs.tell.Tie as tie
 
 returns : tie.Need-returns
 returns c = let a = c .before .before .args in told-none (a .used) (a .more) (a .got) (c .before .if1 .taken) (c .if2 .taken)

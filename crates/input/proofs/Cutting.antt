@@ -1,4 +1,4 @@
--- Laws of lines, as the loops over a block use them: where a line ends, how an input is cut, and what lines after lines give.
+-- Laws of lines, as the loops over a block use them: where a line ends, and how an input is cut.
 use mathlib.Core.Path.{_≡_, refl, sym, _∙_, ap}
 use mathlib.Core.Bool.{Bool, true, false, cond}
 use mathlib.Core.List.{List, [], _∷_, _++_, append-assoc, append-nil}
@@ -6,18 +6,16 @@ use Prim.Native.Nat.{ℕ, zero, suc, _+_, _-_, _≤_, _<_}
 use native.Mathlib.Omega.{arith}
 use native.Mathlib.Numerals.{add-one}
 use lib.ListN.{length, getD, take, drop, set, length-append, length-take, length-drop}
-use lib.Seq.{take-suc, take-suc-set, take-append-add, take-all, take-add, drop-drop, length-take-le, getD-take}
-use borrow.Author.Tests.{ne-eqb, eqb-true, eqb-false, le-ltb}
+use lib.Seq.{take-suc, take-suc-set, take-append-add, take-all, take-add, drop-drop, getD-take}
+use borrow.Author.Tests.{ne-eqb, eqb-true, eqb-false}
 use lib.Dec.{eqb}
 use Rattle.whole.proofs.Lists.{drop-next, drop-end}
-use Rattle.reply.specs.Written.{over}
-use Rattle.condition.specs.declared.Condition.{Condition}
-use Rattle.panel.specs.declared.Heard.{Heard}
-use Rattle.panel.specs.Step.{stepOf, conditionAfter, outcomes}
-use Rattle.panel.specs.Answering.{heardOutcome}
-use Rattle.lines.specs.declared.Feed.{Feed}
-use Rattle.lines.specs.Lines.{Cut, cut, ended, longer, joined, NoNewline, CutLaw, sent, together, repliesTo}
-use Rattle.lines.specs.Taking.{lineLength, between, LinesTaken}
+use Rattle.input.specs.Lines.{Cut, cut, ended, longer, joined, NoNewline, CutLaw, lineLength, between}
+
+-- ---- none, or at least one
+pub by-count : {P : Type 0} (n : ℕ) → (n ≡ 0 → P) → (0 < n → P) → P
+by-count zero z p = z refl
+by-count (suc n) z p = p (omega arith)
 
 -- ---- the way to the next byte 10
 module _ (s : List ℕ) (i : ℕ) where
@@ -94,20 +92,6 @@ kept-all k p n i e = rw (e, take-append-add k p i)
 pub kept-rest : (k p : List ℕ) (n i : ℕ) → length p ≤ i → length k + length p ≤ n → k ++ take i p ≡ take n (k ++ p)
 kept-rest k p n i h g = rw (take-all i p h) (sym (take-all n (k ++ p) (omega (arith, length-append k p))))
 
--- ---- a reply behind those that wait
-pub reply-waits : (l part post w : List ℕ) (n k : ℕ) → n ≤ length l → k ≡ length w → take (n + k) (take n l ++ (over w part ++ post)) ≡ take n l ++ w
-unfolding over
-reply-waits l part post w n k p e =
-    let m : n + k ≡ length (take n l) + length w = omega (arith, length-take-le n l p) in
-    let z : length w ≡ length w + 0 = omega arith in
-    rw (m, take-append-add (take n l) ((w ++ drop (length w) part) ++ post) (length w), append-assoc w (drop (length w) part) post)
-    (ap (λ (t : List ℕ). take n l ++ t) (ap (λ (i : ℕ). take i (w ++ (drop (length w) part ++ post))) z ∙ take-append-add w (drop (length w) part ++ post) 0 ∙ append-nil w))
-
--- with room for a reply, the buffer's length makes no difference
-pub any-room : (c : Condition) (h : Heard) (n : ℕ) → 96 ≤ n → heardOutcome c h n ≡ heardOutcome c h 96
-unfolding heardOutcome
-any-room c h n p = rw (le-ltb n 96 p)
-
 -- ---- an input without byte 10
 none-by : (b : ℕ) (s : List ℕ) (x : Bool) → eqb b 10 ≡ x → length (b ∷ s) ≤ cond x 0 (suc (lineLength s)) → (length s ≤ lineLength s → cut s ≡ record { lines = []; rest = s }) →
     cond x (ended (cut s)) (longer b (cut s .lines) (cut s .rest)) ≡ record { lines = []; rest = b ∷ s }
@@ -157,7 +141,7 @@ unfolding cut
 cut-line l u = rw (cut-join l (10 ∷ []), cut-none l u, append-nil l)
 
 -- a line behind whole lines
-cut-more : (p l : List ℕ) → cut p .rest ≡ [] → length l ≤ lineLength l → cut (p ++ (l ++ 10 ∷ [])) ≡ record { lines = cut p .lines ++ l ∷ []; rest = [] }
+pub cut-more : (p l : List ℕ) → cut p .rest ≡ [] → length l ≤ lineLength l → cut (p ++ (l ++ 10 ∷ [])) ≡ record { lines = cut p .lines ++ l ∷ []; rest = [] }
 cut-more p l z u = rw (cut-join p (l ++ 10 ∷ []), cut-line l u, z)
 
 -- ---- the law of `cut`
@@ -199,36 +183,6 @@ pub begun-newlines : (input piece : List ℕ) → length piece ≤ lineLength pi
 begun-newlines input piece u =
     front-newlines 2001 (cut input .rest ++ piece) (rw (cut-join input piece, cut-none piece u) at (cut-law (input ++ piece) .rest))
 
--- ---- lines after lines
-pub sent-on : (c : Condition) (a b : List (List ℕ)) → conditionAfter c (sent (a ++ b)) ≡ conditionAfter (conditionAfter c (sent a)) (sent b)
-unfolding conditionAfter
-sent-on c [] b = refl
-sent-on c (l ∷ a) b = sent-on (stepOf c l 96 .after) a b
-
-pub replied-on : (c : Condition) (a b : List (List ℕ)) → repliesTo c (a ++ b) ≡ repliesTo c a ++ repliesTo (conditionAfter c (sent a)) b
-unfolding conditionAfter outcomes together
-replied-on c [] b = refl
-replied-on c (l ∷ a) b =
-    ap (λ (w : List ℕ). stepOf c l 96 .reply ++ w) (replied-on (stepOf c l 96 .after) a b)
-    ∙ sym (append-assoc (stepOf c l 96 .reply) (repliesTo (stepOf c l 96 .after) a) (repliesTo (conditionAfter (stepOf c l 96 .after) (sent a)) b))
-
--- none, and one
-pub none-sent : (c : Condition) → conditionAfter c (sent []) ≡ c
-unfolding conditionAfter
-none-sent c = refl
-
-pub none-replied : (c : Condition) → repliesTo c [] ≡ []
-unfolding outcomes together
-none-replied c = refl
-
-pub one-sent : (c : Condition) (l : List ℕ) → conditionAfter c (sent (l ∷ [])) ≡ stepOf c l 96 .after
-unfolding conditionAfter
-one-sent c l = refl
-
-pub one-replied : (c : Condition) (l : List ℕ) → repliesTo c (l ∷ []) ≡ stepOf c l 96 .reply
-unfolding outcomes together
-one-replied c l = append-nil (stepOf c l 96 .reply)
-
 -- ---- the bytes between places of a block
 pub between-on : (b : List ℕ) (i j k : ℕ) → i ≤ j → j ≤ k → between b i j ++ between b j k ≡ between b i k
 between-on b i j k p q =
@@ -252,28 +206,3 @@ module _ (block : List ℕ) (i e : ℕ) (there : e ≡ i + lineLength (drop i bl
 
   pub no-line : length block ≤ e → NoNewline (drop i block)
   no-line h = no-newlines (drop i block) (omega (arith, length-drop i block))
-
--- ---- the lines taken so far, and one more
-pub taken-none : (f : Feed) (waited block : List ℕ) (at : ℕ) → LinesTaken f waited (between block at at) f waited
-unfolding cut
-taken-none f waited block at =
-    rw (between-none block at) (record {
-      whole = refl;
-      condition = sym (none-sent (f .cond));
-      replied = sym (rw (none-replied (f .cond)) (append-nil waited));
-      count = omega arith;
-    })
-
-pub taken-more : {f r g : Feed} {waited passed waits after : List ℕ} → LinesTaken f waited passed r waits → (l : List ℕ) → length l ≤ lineLength l → 0 < r .left →
-    g .cond ≡ stepOf (r .cond) l 96 .after → g .left ≡ r .left - 1 → after ≡ waits ++ stepOf (r .cond) l 96 .reply → LinesTaken f waited (passed ++ (l ++ 10 ∷ [])) g after
-taken-more {f} {r} {g} {waited} {passed} {waits} {after} s l u p c n w =
-    let ls = cut passed .lines in
-    let k = cut-more passed l (s .whole) u in
-    record {
-      whole = ap (λ (k : Cut). k .rest) k;
-      condition = c ∙ rw (k, s .condition) (sym (sent-on (f .cond) ls (l ∷ []) ∙ one-sent (conditionAfter (f .cond) (sent ls)) l));
-      replied =
-          w ∙ rw (k, s .replied, s .condition, replied-on (f .cond) ls (l ∷ []), one-replied (conditionAfter (f .cond) (sent ls)) l)
-          (append-assoc waited (repliesTo (f .cond) ls) (stepOf (conditionAfter (f .cond) (sent ls)) l 96 .reply));
-      count = omega (arith, s .count, ap (λ (k : Cut). length (k .lines)) k, length-append ls (l ∷ []));
-    }

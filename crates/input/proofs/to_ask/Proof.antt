@@ -1,9 +1,9 @@
 -- `to_ask`: how many bytes are asked for next, where `left` lines and `more` bytes may still come and `used` bytes of a line are kept.
 use native.Mathlib.Omega.{arith}
-use Rattle.lines.proofs.Limits.{ask-full, ask-none, ask-more, ask-one}
+use Rattle.input.proofs.Limits.{ask-full, ask-none, ask-more, ask-one}
 use borrow.Author.Needs.{needs}
-use Rattle.lines.proofs.to_ask.Statement.{statement}
-use Rattle.lines.proofs.to_ask.Tie as tie
+use Rattle.input.proofs.to_ask.Statement.{statement}
+use Rattle.input.proofs.to_ask.Tie as tie
 
 returns : tie.Need-returns
 returns c = let a = c .before .args in ask-full (a .left) (a .used) (a .more) (c .if1 .taken)
