@@ -5,8 +5,9 @@ use Rattle.whole.specs.Root.{rootDigits}
 use Rattle.columns.specs.Columns.{isAbove, columnAnswer, inOrder}
 use Rattle.record.specs.Filler.{padded}
 use Rattle.limits.specs.Limits.{shipLimits, loadLimits, columnLimits, cellLimits, sectionLimits, slackLimits, holdLimits}
-use Rattle.grain.specs.Depth.{standardDepth, wingDepth, cellDepth, cellArea}
-use Rattle.grain.specs.Section.{mostHeld, keptFrom, fitsFrom, firstMoment, highMoment, oldTwice, sectionMoment}
+use Rattle.cells.specs.Depth.{standardDepth, wingDepth, cellDepth, cellArea}
+use Rattle.cells.specs.Sizes.{mostHeld}
+use Rattle.grain.specs.Section.{keptFrom, fitsFrom, firstMoment, highMoment, oldTwice, sectionMoment}
 use Rattle.grain.specs.Slack.{slackMoment}
 use Rattle.grain.specs.Sum.{partMoment, holdMoment, weightMoment, holdFits, totalWeight}
 use Rattle.arms.specs.Angles.{angle, sine}

@@ -15,7 +15,7 @@ use Rattle.whole.proofs.Roots.{Rooted, every-root}
 use Rattle.whole.specs.Lists.{sumOf}
 use Rattle.record.specs.declared.Cell.{Cell}
 use Rattle.record.specs.Held.{cellWidth}
-use Rattle.grain.specs.Depth.{cellArea}
+use Rattle.cells.specs.Depth.{cellArea}
 use Rattle.grain.specs.Section.{Kept, kept, keptOf, base, trapezium, firstMoment, highMoment, oldTwice, sectionMoment}
 use Rattle.grain.specs.Within.{SectionWithin}
 use Rattle.grain.specs.Figures.{total, cell, FirstMoment}

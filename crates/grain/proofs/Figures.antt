@@ -3,9 +3,7 @@ use mathlib.Core.Path.{_≡_, refl, sym, ap, ap₂, _∙_}
 use mathlib.Core.Bool.{true}
 use mathlib.Core.List.{List, [], _∷_}
 use mathlib.Core.Logic.{_↔_}
-use Prim.Native.Nat.{ℕ, zero, suc, _+_, _*_, _-_, _/_, _%_, _≤_, _<_, min, max}
-use native.Mathlib.Nat.{lt-of-not-le}
-use native.Mathlib.Decide.{decLe}
+use Prim.Native.Nat.{ℕ, zero, suc, _*_, _-_, _/_, _≤_, _<_, min}
 use native.Mathlib.Omega.{arith}
 use lib.Dec.{leb}
 use lib.ListN.{length, getD}
@@ -17,58 +15,25 @@ use Rattle.whole.proofs.Dividing.{ceil-low, ceil-high}
 use Rattle.record.specs.declared.Mode.{Mode}
 use Rattle.record.specs.declared.Mode.the-variants.{Trimmed, Voided, Partial}
 use Rattle.record.specs.declared.Cell.{Cell}
-use Rattle.record.specs.declared.Cell.the-variants.{Wing, Hatch, Void}
+use Rattle.record.specs.declared.Cell.the-variants.{Void}
 use Rattle.record.specs.declared.Part.{Part}
 use Rattle.record.specs.declared.Hold.{Hold}
 use Rattle.record.specs.Filler.{noPart}
 use Rattle.record.specs.Held.{cellWidth, cellLip, cellsOf, partsOf}
 use Rattle.limits.specs.Limits.{partLimits, holdLimits}
-use Rattle.grain.specs.Depth.{standardDepth, wingDepth, cellDepth, cellArea}
-use Rattle.grain.specs.Section.{Kept, mostHeld, cellMost, kept, keptOf, base, firstMoment, oldTwice, fits, fitsFrom, sectionMoment}
+use Rattle.cells.specs.Depth.{cellArea}
+use Rattle.cells.specs.Sizes.{cellMost}
+use Rattle.cells.proofs.Figures.{area-is, most-is, area-only, most-only}
+use Rattle.grain.specs.Section.{Kept, kept, keptOf, base, firstMoment, oldTwice, fits, fitsFrom, sectionMoment}
 use Rattle.grain.specs.Slack.{slackMoment}
 use Rattle.grain.specs.Sum.{partSection, partMoment, percentage, holdMoment, weightMoment, partFits, holdFits}
 use Rattle.grain.specs.Within.{SectionWithin}
-use Rattle.grain.specs.Figures.{total, RoundedUp, printedDistances, StandardDepth, WingDepth, CellArea, MostHeld, cell, KeptAreas, Fits, FirstTaken, SectionMoment, PartFits, HoldFits, PartSection, percent, part, WeightMoment}
-use Rattle.grain.proofs.Depths.{distance-is, below-first, above-last, interpolates}
-use Rattle.grain.proofs.Sections.{most-triangle, most-trapezium, most-taken, first-triangle, first-trapezium, trapezium-taken, base-is, areas-le, kept-sum, kept-length}
+use Rattle.grain.specs.Figures.{total, RoundedUp, cell, KeptAreas, Fits, FirstTaken, SectionMoment, PartFits, HoldFits, PartSection, percent, part, WeightMoment}
+use Rattle.grain.proofs.Sections.{first-triangle, first-trapezium, trapezium-taken, base-is, areas-le, kept-sum, kept-length}
 use Rattle.grain.proofs.Walks.{part-within, cells-section}
 use Rattle.grain.proofs.Weights.{hold-within}
 use Rattle.grain.proofs.Totals.{total-same, sum-total, keptAt, width-at, kept-at, fits-last, highs, olds}
 use Rattle.grain.proofs.Accuracy.{base-one, made, bounds, firstFrom, firstTo, every-scale}
-
--- ---- depths and areas
-standard : (x : ℕ) → StandardDepth x (standardDepth x)
-standard x =
-    record {
-      below = λ h. sym (below-first x h);
-      between = λ k t h l e. rw e (interpolates k t h l);
-      above = λ t e. omega (arith, above-last x (omega arith));
-    }
-
-wing : (dist girder : ℕ) → WingDepth dist girder (wingDepth dist girder)
-unfolding wingDepth
-wing dist girder =
-    record {
-      standard = standardDepth dist;
-      is = standard dist;
-      least = omega arith;
-      notBelow = omega arith;
-      notAbove = λ h. omega arith;
-    }
-
-area-is : (c : Cell) → CellArea c (cellArea c)
-unfolding cellArea cellDepth
-area-is (Wing w d g l) = (wingDepth d g, wing d g, refl)
-area-is (Hatch w o l) = refl
-area-is (Void w d l) = refl
-
--- ---- what a cell can hold
-most-is : (w g : ℕ) → MostHeld w g (mostHeld w g)
-most-is w g =
-    record {
-      low = λ h. let e = most-triangle w g h in (omega arith, omega arith);
-      high = λ h. let e = most-trapezium w g h in let t = most-taken w g h in (omega arith, omega arith);
-    }
 
 -- ---- kept areas
 kept-together : (c : Cell) (cs : List Cell) → total (length (c ∷ cs)) (keptAt (keptOf (c ∷ cs))) ≡ total (length (c ∷ cs)) (λ i. cellArea (cell (c ∷ cs) i))
@@ -114,43 +79,6 @@ fits-to (c ∷ cs) e =
     }
 
 -- ---- and no other figures meet the paper's words
-standard-only : (x d : ℕ) → StandardDepth x d → d ≡ standardDepth x
-standard-only x d s = by (decLe 500 x) (decLe 8000 x)
-  where
-    by : Dec (500 ≤ x) → Dec (8000 ≤ x) → d ≡ standardDepth x
-    by (no f) e = let h : x < 500 = lt-of-not-le f in s .below h ∙ below-first x h
-    by (yes f) (yes e) = omega (arith, s .above (x - 8000) (omega arith), above-last x e)
-    by (yes f) (no e) =
-        let k : x / 500 - 1 < 15 = omega (arith, lt-of-not-le e) in
-        let p : x ≡ getD printedDistances (x / 500 - 1) 0 + x % 500 = omega (arith, distance-is (x / 500 - 1) (omega arith)) in
-        s .between (x / 500 - 1) (x % 500) k (omega arith) p ∙ sym (ap standardDepth p ∙ interpolates (x / 500 - 1) (x % 500) k (omega arith))
-
-wing-only : (dist girder depth : ℕ) → WingDepth dist girder depth → depth ≡ wingDepth dist girder
-unfolding wingDepth
-wing-only dist girder depth w =
-    let e = standard-only dist (w .standard) (w .is) in
-    by (decLe depth 100) e
-  where
-    by : Dec (depth ≤ 100) → w .standard ≡ standardDepth dist → depth ≡ ceilDiv (max (500 * 100) (standardDepth dist + 375 * girder - 375 * 600)) 500
-    by (yes l) e = omega (arith, w .least, w .notBelow)
-    by (no n) e = omega (arith, w .notBelow, w .notAbove (lt-of-not-le n))
-
-area-only : (c : Cell) (a : ℕ) → CellArea c a → a ≡ cellArea c
-unfolding cellArea cellDepth
-area-only (Wing w d g l) a (depth, is, e) = e ∙ ap (λ (n : ℕ). w * n) (wing-only d g depth is)
-area-only (Hatch w o l) a e = e
-area-only (Void w d l) a e = e
-
-most-only : (w g m : ℕ) → MostHeld w g m → m ≡ mostHeld w g
-most-only w g m s = by (decLe (100000 * g) (26795 * w))
-  where
-    by : Dec (100000 * g ≤ 26795 * w) → m ≡ mostHeld w g
-    by (yes h) = let t = s .low h in omega (arith, t .0, t .1, most-triangle w g h)
-    by (no f) =
-        let h = lt-of-not-le f in
-        let t = s .high h in
-        omega (arith, t .0, t .1, most-trapezium w g h, most-taken w g h)
-
 -- of two sums that are alike but for the last entry
 last-same : (n : ℕ) (f g : ℕ → ℕ) → ((i : ℕ) → i < n → f i ≡ g i) → total (suc n) f ≡ total (suc n) g → f n ≡ g n
 unfolding total

@@ -1,4 +1,3 @@
-pub mod Depths
 pub mod Sections
 pub mod Walks
 pub mod Weights

@@ -1,4 +1,4 @@
--- Laws of what a cell can hold, of bases and of first moments.
+-- Laws of bases, of first moments and of kept areas.
 use mathlib.Core.Path.{_≡_, refl, ap}
 use mathlib.Core.Bool.{true, _&&_}
 use mathlib.Core.List.{List, [], _∷_}
@@ -16,22 +16,10 @@ use Rattle.record.specs.declared.Cell.{Cell}
 use Rattle.record.specs.declared.Cell.the-variants.{Wing, Hatch, Void}
 use Rattle.record.specs.Held.{cellWidth}
 use Rattle.limits.specs.Limits.{cellLimits}
-use Rattle.grain.specs.Depth.{standardDepth, wingDepth, cellDepth, cellArea}
-use Rattle.grain.specs.Section.{mostHeld, cellMost, kept, keptFrom, base, trapezium, firstMoment, highMoment, oldTwice}
-use Rattle.grain.proofs.Depths.{below-first, above-last, between, between-le}
-
--- ---- the two cases of what a cell can hold, and the sizes that occur
-module _ (w g : ℕ) where
-  pub most-triangle : 100000 * g ≤ 26795 * w → 100000 * (g * g) / (2 * 26795) ≡ mostHeld w g
-  unfolding mostHeld
-  most-triangle h = rw (le-leb (100000 * g) (26795 * w) h) refl
-
-  pub most-trapezium : 26795 * w < 100000 * g → (200000 * (w * g) - 26795 * (w * w)) / 200000 ≡ mostHeld w g
-  unfolding mostHeld
-  most-trapezium h = rw (lt-leb (100000 * g) (26795 * w) h) refl
-
-  pub most-taken : 26795 * w < 100000 * g → 26795 * (w * w) ≤ 200000 * (w * g)
-  most-taken h = omega (arith, mul-le-mul-left w (le-of-lt h))
+use Rattle.cells.specs.Depth.{cellDepth, cellArea}
+use Rattle.cells.specs.Sizes.{cellMost}
+use Rattle.cells.proofs.Sizes.{wing-le, area-le}
+use Rattle.grain.specs.Section.{kept, keptFrom, base, trapezium, firstMoment, highMoment, oldTwice}
 
 -- ---- the two cases of a first moment
 module _ (w a : ℕ) where
@@ -66,26 +54,10 @@ first-half w a small = go (decLe (200000 * a) (26795 * (w * w)))
     go (yes h) = omega (arith, first-triangle w a h, mul-le-mul-left a (base-within a small w h))
     go (no f) = omega (arith, first-trapezium w a (lt-of-not-le f))
 
--- ---- depths and areas within their limits
-standard-le : (x : ℕ) → x ≤ 20000 → standardDepth x ≤ 775000
-standard-le x h = go (decLe 500 x) (decLe 8000 x)
-  where
-    go : Dec (500 ≤ x) → Dec (8000 ≤ x) → standardDepth x ≤ 775000
-    go (no f) e = omega (arith, below-first x (omega (arith, lt-of-not-le f)))
-    go (yes f) (yes e) = omega (arith, above-last x e)
-    go (yes f) (no e) = omega (arith, between x f (lt-of-not-le e), between-le x f (lt-of-not-le e))
-
-wing-le : (dist girder : ℕ) → dist ≤ 20000 → girder ≤ 3000 → wingDepth dist girder ≤ 5000
-unfolding wingDepth
-wing-le dist girder h k = omega (arith, standard-le dist h)
-
+-- ---- areas within their limits
 pub record CellBounds (c : Cell) : Type 0 where
   pub width : cellWidth c ≤ 40000
   pub area : cellArea c ≤ 5000 * cellWidth c
-
-area-le : (c : Cell) → cellDepth c ≤ 5000 → cellArea c ≤ 5000 * cellWidth c
-unfolding cellArea
-area-le c h = omega (arith, mul-le-mul-left (cellWidth c) h)
 
 pub cell-bounds : (c : Cell) → cellLimits c ≡ true → CellBounds c
 unfolding cellLimits cellDepth

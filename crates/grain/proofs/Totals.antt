@@ -8,8 +8,9 @@ use lib.ListN.{length, getD, take}
 use Rattle.whole.specs.Lists.{sumOf}
 use Rattle.record.specs.declared.Cell.{Cell}
 use Rattle.record.specs.Held.{cellWidth}
-use Rattle.grain.specs.Depth.{cellArea}
-use Rattle.grain.specs.Section.{Kept, kept, cellMost, keptFrom, fitsFrom, highMoment, oldTwice}
+use Rattle.cells.specs.Depth.{cellArea}
+use Rattle.cells.specs.Sizes.{cellMost}
+use Rattle.grain.specs.Section.{Kept, kept, keptFrom, fitsFrom, highMoment, oldTwice}
 use Rattle.grain.specs.Figures.{total, cell, boundary}
 use Rattle.grain.proofs.Sections.{kept-length}
 

@@ -15,11 +15,12 @@ use Rattle.record.specs.declared.Part.{Part}
 use Rattle.record.specs.declared.Cell.{Cell}
 use Rattle.record.specs.Held.{cellWidth, cellsOf}
 use Rattle.limits.specs.Limits.{cellLimits, sectionLimits}
+use Rattle.cells.specs.Depth.{cellArea}
+use Rattle.cells.specs.Sizes.{cellMost, sizesOf}
 use Rattle.grain.specs.declared.Sums.{Sums}
-use Rattle.grain.specs.Depth.{cellArea}
-use Rattle.grain.specs.Section.{cellMost, keptFrom, keptOf, fitsFrom, fits, firstMoment, highMoment, oldTwice, sectionMoment}
+use Rattle.grain.specs.Section.{keptFrom, keptOf, fitsFrom, fits, firstMoment, highMoment, oldTwice, sectionMoment}
 use Rattle.grain.specs.Within.{SectionWithin}
-use Rattle.grain.specs.Walk.{sizesOf, withKept, innerCell, lastCell, lastAnswer, sectionAnswer, noSums, SumsFit}
+use Rattle.grain.specs.Walk.{withKept, innerCell, lastCell, lastAnswer, sectionAnswer, noSums, SumsFit}
 use Rattle.grain.proofs.Sections.{CellBounds, cell-bounds, areas-le, kept-inner, kept-last, first-half, never-negative}
 
 -- After i cells of l: what the sums have, and what is still ahead, make up the whole; and the sums are small.

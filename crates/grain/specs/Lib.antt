@@ -1,4 +1,3 @@
-pub mod Depth
 pub mod Section
 pub mod Within
 pub mod Figures

@@ -7,21 +7,9 @@ use lib.Dec.{leb}
 use Rattle.whole.specs.Root.{root}
 use Rattle.whole.specs.Lists.{sumOf}
 use Rattle.record.specs.declared.Cell.{Cell}
-use Rattle.record.specs.Held.{cellWidth, cellLip}
-use Rattle.grain.specs.Depth.{cellArea}
-
--- the slope of 15 degrees, in hundred-thousandths
-abbrev pub slope15 : ℕ
-slope15 = 26795
-
--- The most that a cell of width w can hold against a lip g, rounded down: g²/(2 × slope) where g ≤ slope × w, else
--- w × g − slope × w²/2.
-unfoldable pub mostHeld : (w g : ℕ) → ℕ
-mostHeld w g =
-    cond (leb (100000 * g) (slope15 * w)) (100000 * (g * g) / (2 * slope15)) ((200000 * (w * g) - slope15 * (w * w)) / 200000)
-
-abbrev pub cellMost : Cell → ℕ
-cellMost c = mostHeld (cellWidth c) (cellLip c)
+use Rattle.record.specs.Held.{cellWidth}
+use Rattle.cells.specs.Depth.{cellArea}
+use Rattle.cells.specs.Sizes.{slope15, cellMost}
 
 -- a kept area, in a cell of this width
 pub record Kept : Type 0 where

@@ -9,18 +9,13 @@ use Rattle.whole.specs.Lists.{sumOf}
 use Rattle.record.specs.declared.Mode.{Mode}
 use Rattle.record.specs.declared.Part.{Part}
 use Rattle.record.specs.declared.Hold.{Hold}
-use Rattle.record.specs.Held.{cellWidth, partsOf}
-use Rattle.grain.specs.declared.CellSizes.{CellSizes}
+use Rattle.record.specs.Held.{partsOf}
+use Rattle.cells.specs.declared.CellSizes.{CellSizes}
 use Rattle.grain.specs.declared.Sums.{Sums}
 use Rattle.grain.specs.declared.Shifted.{Shifted}
 use Rattle.grain.specs.declared.Shifted.the-variants.{Moment, NoFit}
-use Rattle.grain.specs.Depth.{cellArea}
-use Rattle.grain.specs.Section.{cellMost, kept, firstMoment, fits, sectionMoment}
+use Rattle.grain.specs.Section.{kept, firstMoment, fits, sectionMoment}
 use Rattle.grain.specs.Sum.{partFits, partSection, partMoment, holdFits}
-
--- a cell's width, void area, and the most that it can hold
-abbrev pub sizesOf : Cell → CellSizes
-sizesOf c = record { width = cellWidth c; area = cellArea c; most = cellMost c }
 
 -- the sums with a cell that keeps the area a and leaves the excess e
 unfoldable pub withKept : Sums → CellSizes → (a e : ℕ) → Sums

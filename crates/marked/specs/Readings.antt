@@ -7,8 +7,9 @@ use Rattle.whole.specs.Root.{rootDigits}
 use Rattle.whole.specs.Lists.{all, sumOf}
 use Rattle.record.specs.declared.Cell.the-variants.{Void}
 use Rattle.record.specs.declared.Part.{Part}
-use Rattle.grain.specs.Depth.{standardDepth, wingDepth, cellDepth, cellArea}
-use Rattle.grain.specs.Section.{mostHeld, keptFrom, base, firstMoment, highMoment, oldTwice, sectionMoment}
+use Rattle.cells.specs.Depth.{standardDepth, wingDepth, cellDepth, cellArea}
+use Rattle.cells.specs.Sizes.{mostHeld}
+use Rattle.grain.specs.Section.{keptFrom, base, firstMoment, highMoment, oldTwice, sectionMoment}
 use Rattle.grain.specs.Slack.{slackMoment}
 
 pub record Reading : Type 0 where

@@ -2,10 +2,10 @@
 use Prim.Native.Nat.{_≤_}
 use native.Mathlib.Omega.{arith}
 use native.Mathlib.Nat.{mul-le-mul}
-use Rattle.grain.specs.Depth.{cellArea}
+use Rattle.cells.specs.Depth.{cellArea}
 use borrow.Author.Needs.{needs}
-use Rattle.grain.proofs.sizes_of.Statement.{statement}
-use Rattle.grain.proofs.sizes_of.Tie as tie
+use Rattle.cells.proofs.sizes_of.Statement.{statement}
+use Rattle.cells.proofs.sizes_of.Tie as tie
 
 mul-t6 : tie.Need-mul-t6
 mul-t6 c = let w : c .before .before .width-of .result ≤ 65535 = omega arith in let d : c .depth-of .result ≤ 131072 = omega arith in omega (arith, mul-le-mul w d)

@@ -2,10 +2,10 @@
 use Prim.Native.Nat.{_≤_}
 use native.Mathlib.Omega.{arith}
 use native.Mathlib.Nat.{mul-le-mul}
-use Rattle.grain.proofs.Sections.{most-triangle, most-trapezium, most-taken}
+use Rattle.cells.proofs.Sizes.{most-triangle, most-trapezium, most-taken}
 use borrow.Author.Needs.{needs}
-use Rattle.grain.proofs.most_held.Statement.{statement}
-use Rattle.grain.proofs.most_held.Tie as tie
+use Rattle.cells.proofs.most_held.Statement.{statement}
+use Rattle.cells.proofs.most_held.Tie as tie
 
 mul-result : tie.Need-mul-result
 mul-result c = let a = c .before .args in let w : a .w ≤ 65535 = omega arith in let g : a .g ≤ 65535 = omega arith in omega (arith, mul-le-mul g g, mul-le-mul w g, mul-le-mul w w)

@@ -1,9 +1,9 @@
 -- `standard_depth`: 500 times the standard depth at the distance x.
 use native.Mathlib.Omega.{arith}
-use Rattle.grain.proofs.Depths.{below-first, above-last, between, between-le}
+use Rattle.cells.proofs.Depths.{below-first, above-last, between, between-le}
 use borrow.Author.Needs.{needs}
-use Rattle.grain.proofs.standard_depth.Statement.{statement}
-use Rattle.grain.proofs.standard_depth.Tie as tie
+use Rattle.cells.proofs.standard_depth.Statement.{statement}
+use Rattle.cells.proofs.standard_depth.Tie as tie
 
 returns : tie.Need-returns
 returns c = (below-first (c .before .args .x) (c .if1 .taken), omega arith)

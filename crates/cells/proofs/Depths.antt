@@ -10,7 +10,7 @@ use borrow.Author.Tests.{lt-ltb, le-ltb, le-leb, lt-leb}
 use Rattle.whole.specs.Line.{onLine}
 use Rattle.whole.proofs.Tables.{at}
 use Rattle.whole.proofs.Lines.{line-end}
-use Rattle.grain.specs.Depth.{distances, depths, standardDepth}
+use Rattle.cells.specs.Depth.{distances, depths, standardDepth}
 
 -- every entry stands 500 mm behind the one before
 pub distance-is : (k : ℕ) → k < 16 → getD distances k 0 ≡ 500 * (k + 1)

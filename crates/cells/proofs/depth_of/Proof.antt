@@ -1,9 +1,9 @@
 -- `depth_of`
 use mathlib.Core.Path.{refl}
-use Rattle.grain.specs.Depth.{cellDepth}
+use Rattle.cells.specs.Depth.{cellDepth}
 use borrow.Author.Needs.{needs}
-use Rattle.grain.proofs.depth_of.Statement.{statement}
-use Rattle.grain.proofs.depth_of.Tie as tie
+use Rattle.cells.proofs.depth_of.Statement.{statement}
+use Rattle.cells.proofs.depth_of.Tie as tie
 
 returns : tie.Need-returns
 unfolding cellDepth

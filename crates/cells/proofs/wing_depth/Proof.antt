@@ -1,9 +1,9 @@
 -- `wing_depth`: a wing's depth, rounded up once.
-use Rattle.grain.specs.Depth.{wingDepth}
+use Rattle.cells.specs.Depth.{wingDepth}
 use native.Mathlib.Omega.{arith}
 use borrow.Author.Needs.{needs}
-use Rattle.grain.proofs.wing_depth.Statement.{statement}
-use Rattle.grain.proofs.wing_depth.Tie as tie
+use Rattle.cells.proofs.wing_depth.Statement.{statement}
+use Rattle.cells.proofs.wing_depth.Tie as tie
 
 returns : tie.Need-returns
 unfolding wingDepth
