@@ -19,7 +19,7 @@ use Rattle.limits.specs.Limits.{cellLimits, sectionLimits, slackLimits, partLim
 use Rattle.grain.specs.declared.Shifted.the-variants.{Moment, NoFit}
 use Rattle.grain.specs.Section.{Kept, keptFrom, keptOf, highMoment, sectionMoment}
 use Rattle.grain.specs.Slack.{slackMoment}
-use Rattle.grain.specs.Sum.{partSection, partMoment, percentage, holdMoment, weightMoment}
+use Rattle.grain.specs.Sum.{partSection, partMoment, holdMoment, weightMoment}
 use Rattle.grain.proofs.Sections.{areas-le, kept-sum}
 use Rattle.grain.proofs.Walks.{part-within}
 

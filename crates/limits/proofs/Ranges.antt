@@ -5,7 +5,7 @@ use mathlib.Core.Logic.{_↔_}
 use Prim.Native.Nat.{ℕ, _≤_}
 use native.Mathlib.Omega.{arith}
 use lib.Dec.{leb, eqb}
-use lib.ListN.{length, getD}
+use lib.ListN.{getD}
 use borrow.Author.Tests.{leb-true, le-leb, eqb-true, eq-eqb}
 use Rattle.whole.specs.Lists.{within, all, sumOf}
 use Rattle.whole.proofs.Lists.{and-true, within-true, within-by, all-at, all-from}

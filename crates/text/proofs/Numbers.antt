@@ -1,5 +1,5 @@
 -- Laws of runs and of the numbers that they say.
-use mathlib.Core.Path.{_≡_, refl, sym, _∙_}
+use mathlib.Core.Path.{_≡_, refl, _∙_}
 use mathlib.Core.Bool.{Bool, true, false, cond, _&&_}
 use mathlib.Core.List.{List, [], _∷_}
 use Prim.Native.Nat.{ℕ, _+_, _-_, _*_, _≤_, _<_}
@@ -8,7 +8,7 @@ use lib.Dec.{leb}
 use lib.ListN.{length, getD, drop}
 use borrow.Author.Tests.{ne-eqb, le-leb, lt-leb}
 use Rattle.whole.specs.Lists.{all}
-use Rattle.text.specs.Token.{isDigit, valueFrom, value, needlessZero, isNumber, numberOf}
+use Rattle.text.specs.Token.{isDigit, valueFrom, value, needlessZero, numberOf}
 use Rattle.text.specs.Places.{digitsFrom}
 use Rattle.text.specs.declared.Number.{Number}
 use Rattle.text.specs.declared.Number.the-variants.{Is, Bad}

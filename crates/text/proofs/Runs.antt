@@ -1,6 +1,6 @@
 -- Laws of tokens.
-use mathlib.Core.Path.{_≡_, refl, sym, _∙_, ap, subst}
-use mathlib.Core.Bool.{Bool, true, false, cond, not, _&&_, _||_}
+use mathlib.Core.Path.{_≡_, refl, sym, _∙_, subst}
+use mathlib.Core.Bool.{Bool, true, false, not, _||_}
 use mathlib.Core.List.{List, [], _∷_}
 use Prim.Native.Nat.{ℕ, _+_, _-_, _≤_, _<_}
 use native.Mathlib.Decide.{ℕ-discrete, decLt}
@@ -8,15 +8,15 @@ use native.Mathlib.Omega.{arith}
 use lib.Dec.{eqb, leb}
 use lib.ListN.{length, getD, take, drop, length-drop}
 use lib.Seq.{drop-drop}
-use Rattle.whole.specs.Lists.{all, within}
+use Rattle.whole.specs.Lists.{within}
 use borrow.Author.Tests.{ne-eqb, eq-eqb, leb-true, leb-false, not-true, not-false}
-use Rattle.text.specs.Token.{opened, closed, run, opening, closing, inRun, startsRun, glue, tokens, same}
+use Rattle.text.specs.Token.{opened, closed, run, inRun, startsRun, glue, tokens, same}
 use Rattle.text.specs.Token.{RunRule, prefix, runLength}
-use Rattle.text.specs.Places.{otherLength, startsToken, gap, tokenAt, nextOf}
+use Rattle.text.specs.Places.{startsToken, gap, tokenAt, nextOf}
 use Rattle.text.specs.declared.Next.{Next}
 use Rattle.text.specs.declared.Next.the-variants.{Open, Close, Run, End}
 use Rattle.whole.proofs.Lists.{drop-next, drop-end}
-use Rattle.text.proofs.Scans.{prefix-on, prefix-off, prefix-le, scan-over, scan-stop}
+use Rattle.text.proofs.Scans.{prefix-le, scan-over, scan-stop}
 
 pub no-run : (s : List ℕ) → startsRun s ≡ false → runLength s ≡ 0
 unfolding prefix

@@ -1,4 +1,5 @@
 -- `wing_depth`: a wing's depth, rounded up once.
+use mathlib.Core.Path.{refl, _∙_}
 use Rattle.cells.specs.Depth.{wingDepth}
 use native.Mathlib.Omega.{arith}
 use borrow.Author.Needs.{needs}
@@ -7,7 +8,10 @@ use Rattle.cells.proofs.wing_depth.Tie as tie
 
 returns : tie.Need-returns
 unfolding wingDepth
-returns c = (cc, omega arith)
+returns c = (
+  c .divide-up .ensures ∙ rw (c .before .greater .ensures, c .before .before .beyond .ensures, c .before .before .before .standard-depth .ensures .0) refl,
+  omega arith,
+)
 
 pub wing-depth-spec : {M : Type 1} → statement M
 wing-depth-spec =

@@ -1,6 +1,5 @@
 -- `part_at`: A part, by its word.
 use mathlib.Core.Path.{sym, _∙_}
-use Rattle.text.specs.Token.{same}
 use Rattle.parts.specs.Shape.{part?}
 use borrow.Author.Needs.{needs}
 use Rattle.parts.proofs.part_at.Statement.{statement}
