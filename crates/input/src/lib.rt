@@ -59,15 +59,6 @@ fn last_end(block: &[u8], at: usize) -> usize
     e
 }
 
-// The place behind a byte of the block. Apart, so that the loop over lines knows at once that it is no further than the block's end.
-pub fn behind(block: &[u8], at: usize) -> usize
-    requires { ⌜ at < length (now block) ⌝ }
-    ensures { λ r. ⌜ r ≡ at + 1 ⌝ }
-    ensures { λ r. ⌜ r ≤ length (now (block .entry)) ⌝ }
-{
-    at + 1
-}
-
 // ---- a line that has begun
 
 // Keeps of a piece what has room behind the first `used` bytes of the line, 2,001 in all: how many are kept then.

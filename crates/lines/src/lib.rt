@@ -25,6 +25,15 @@ pub struct Taken {
 
 // ---- lines of a block
 
+// The place behind a byte of the block. Apart, so that the loop over lines knows at once that it is no further than the block's end.
+fn behind(block: &[u8], at: usize) -> usize
+    requires { ⌜ at < length (now block) ⌝ }
+    ensures { λ r. ⌜ r ≡ at + 1 ⌝ }
+    ensures { λ r. ⌜ r ≤ length (now (block .entry)) ⌝ }
+{
+    at + 1
+}
+
 // One line: its reply goes behind those that wait.
 fn answer_line(c: Condition, h: Heard, out: &mut [u8], filled: usize) -> Replied
     requires { ⌜ (filled + 96 ≤ 65536) × (length (now out) ≡ 65536) ⌝ }
@@ -56,7 +65,7 @@ fn take_lines(f: Feed, block: &[u8], at: usize, out: &mut [u8]) -> Taken
         let long = r.len;
         filled += long;
         left -= 1;
-        i = input::behind(block, e);
+        i = behind(block, e);
         if r.code == 0 {
             let q = h.request;
             c = panel::effect(c, q);
@@ -109,7 +118,7 @@ fn first_line(f: Feed, block: &[u8], at: usize, line: &mut [u8], out: &mut [u8])
         return Taken { feed: g, at: e };
     }
     let feed = take_begun(g, line, out);
-    let next = input::behind(block, e);
+    let next = behind(block, e);
     Taken { feed, at: next }
 }
 
