@@ -204,7 +204,7 @@ FAULTS = {
     "dist_and_girder": Fault("DIST and GIRDER of a wing exchanged when read", [("", DIST_AND_GIRDER)]),
     "kg_and_fs": Fault("KG and FS of a load exchanged when read", [("", KG_AND_FS)]),
     "new_and_old": Fault("the words `new` and `old` exchanged", [("", NEW_AND_OLD)]),
-    "ship_forgets_load": Fault("a new ship forgets the load", [edit("operations", "theorem_ship_forgets_load")]),
+    "ship_forgets_load": Fault("a new ship forgets the load", [edit("storing", "theorem_ship_forgets_load")]),
     "room_128": Fault("15 below 128 bytes", [("", ROOM_128)]),
     "full_at_once": Fault("23 at once, from the first column on", [("", FULL_AT_ONCE)]),
     "hatch_100": Fault("a hatch's depth OPEN + 100", [edit("cells", "theorem_hatch_100")]),

@@ -25,7 +25,7 @@ use Rattle.reply.proofs.Shown.{verdict-shown}
 use Rattle.stability.proofs.Shown.{sizes}
 use Rattle.judging.specs.Complete.{Complete}
 use Rattle.judging.proofs.Judging.{ready-around, ready-judged}
-use Rattle.operations.proofs.Columns.{held-length}
+use Rattle.storing.proofs.Columns.{held-length}
 use Rattle.demands.specs.Within.{Within}
 use Rattle.demands.specs.Demands.{VerdictsHold}
 use Rattle.demands.proofs.Asked.{asked}

@@ -34,10 +34,10 @@ use Rattle.panel.specs.Step.{outcomeBy, stepOf, Sent, conditionAfter}
 use Rattle.demands.specs.Within.{Within, ColumnsTaken}
 use Rattle.demands.specs.Codes.{request}
 use Rattle.demands.specs.Demands.{ReachedAreWithin, RangesAreWithin}
-use Rattle.operations.proofs.Taking.{place-within}
+use Rattle.storing.proofs.Taking.{place-within}
 use Rattle.demands.proofs.Asked.{taken-as}
 use Rattle.operations.proofs.Effects.{HoldPassed, ship-passed, ship-taken, load-passed, load-taken, column-passed, column-taken, hold-passed, hold-taken, drop-passed, drop-taken}
-use Rattle.operations.proofs.Columns.{Fitting, fitting-more, held-more, below-twenty}
+use Rattle.storing.proofs.Columns.{Fitting, fitting-more, held-more, below-twenty}
 use Rattle.panel.proofs.Effects.{judge-same}
 use Rattle.demands.proofs.Sequence.{taken-more}
 use Rattle.demands.proofs.Demand1.{refusals-change-nothing}

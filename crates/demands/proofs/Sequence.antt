@@ -11,12 +11,12 @@ use Rattle.limits.specs.Limits.{columnLimits}
 use Rattle.record.specs.Held.{held}
 use Rattle.columns.specs.Columns.{isAbove, columnAnswer, inOrder, withColumn}
 use Rattle.condition.specs.declared.Condition.{Condition}
-use Rattle.operations.specs.Operations.{withColumns}
+use Rattle.storing.specs.Storing.{withColumns}
 use Rattle.operations.specs.Operations.{columnOperation}
 use Rattle.demands.specs.Within.{ColumnsTaken}
-use Rattle.operations.proofs.Taking.{taken-is}
+use Rattle.storing.proofs.Taking.{taken-is}
 use Rattle.operations.proofs.Effects.{column-passed, column-taken}
-use Rattle.operations.proofs.Columns.{Fitting, fitting-more, held-more}
+use Rattle.storing.proofs.Columns.{Fitting, fitting-more, held-more}
 
 -- a column above those in order is in order behind them
 order-more : (ks : List Column) (k : Column) → inOrder ks ≡ true → columnLimits k ≡ true → isAbove (k .d) ks ≡ true → inOrder (ks ++ k ∷ []) ≡ true

@@ -31,7 +31,7 @@ use Rattle.condition.specs.Empty.{Nothing}
 use Rattle.judging.specs.Judge.{weight}
 use Rattle.panel.specs.Step.{Outcome, stepOf, Sent, conditionAfter, outcomes}
 use Rattle.judging.specs.Complete.{Places, InRanges, Complete}
-use Rattle.operations.specs.Stores.{ShipStored, LoadStored, ColumnStored, HoldStored, HoldDropped}
+use Rattle.storing.specs.Stores.{ShipStored, LoadStored, ColumnStored, HoldStored, HoldDropped}
 use Rattle.demands.specs.Within.{Within}
 use Rattle.demands.specs.Codes.{request, Asks, ByOperation}
 use Rattle.demands.specs.Runs.{FirstRun, SecondRun}

@@ -27,7 +27,8 @@ use Rattle.grain.specs.Sum.{holdFits}
 use Rattle.grain.proofs.Figures.{hold-fits}
 use Rattle.condition.specs.declared.Condition.{Condition}
 use Rattle.condition.specs.Condition.{isHeld}
-use Rattle.operations.specs.Operations.{withShip, withLoad, withHold, holdAt, taken, refusedWith}
+use Rattle.storing.specs.Storing.{withShip, withLoad, withHold, holdAt}
+use Rattle.operations.specs.Operations.{taken, refusedWith}
 use Rattle.operations.specs.Operations.{shipOperation, loadOperation, columnOperation, holdOperation, dropOperation}
 use Rattle.operations.specs.Codes.{LimitCodes, ColumnCodes, HoldCodes, DropCodes}
 use Rattle.operations.proofs.Effects.{by-cond, change-code}

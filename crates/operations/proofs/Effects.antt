@@ -17,7 +17,8 @@ use Rattle.columns.specs.Columns.{columnAnswer, addedCode, withColumn}
 use Rattle.grain.specs.Sum.{holdFits}
 use Rattle.condition.specs.declared.Condition.{Condition}
 use Rattle.condition.specs.Condition.{isHeld}
-use Rattle.operations.specs.Operations.{withShip, withLoad, withColumns, withHold, holdAt, Change, taken, refusedWith}
+use Rattle.storing.specs.Storing.{withShip, withLoad, withColumns, withHold, holdAt}
+use Rattle.operations.specs.Operations.{Change, taken, refusedWith}
 use Rattle.operations.specs.Operations.{shipOperation, loadOperation, columnChange, columnOperation, holdOperation, dropOperation}
 
 -- a test chooses between two changes as it does between their codes

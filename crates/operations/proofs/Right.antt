@@ -16,7 +16,8 @@ use Rattle.columns.specs.Columns.{columnAnswer}
 use Rattle.grain.specs.Sum.{holdFits}
 use Rattle.condition.specs.declared.Condition.{Condition}
 use Rattle.condition.specs.Condition.{isHeld}
-use Rattle.operations.specs.Operations.{holdAt, Change, taken, refusedWith, shipOperation, loadOperation, columnChange, columnOperation, holdOperation, dropOperation}
+use Rattle.storing.specs.Storing.{holdAt}
+use Rattle.operations.specs.Operations.{Change, taken, refusedWith, shipOperation, loadOperation, columnChange, columnOperation, holdOperation, dropOperation}
 
 -- it has one of these codes, and unless that is 00 the condition is as it was
 pub record Right (codes : List ℕ) (c : Condition) (t : Change) : Type 0 where

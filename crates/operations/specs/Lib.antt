@@ -1,3 +1,2 @@
 pub mod Operations
 pub mod Codes
-pub mod Stores

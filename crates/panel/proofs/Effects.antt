@@ -11,7 +11,7 @@ use Rattle.condition.specs.declared.Condition.{Condition}
 use Rattle.judging.specs.declared.Judged.{Judged}
 use Rattle.judging.specs.declared.Judged.the-variants.{Refused, Given}
 use Rattle.judging.specs.Judge.{judgedOf}
-use Rattle.operations.proofs.Taking.{taken-is}
+use Rattle.storing.proofs.Taking.{taken-is}
 use Rattle.operations.proofs.Effects.{ship-effect, load-effect, column-passed, column-effect, hold-passed, hold-effect, drop-passed, drop-effect}
 use Rattle.panel.specs.Step.{verdictGiven, outcomeBy, outcomeOf}
 use Rattle.panel.specs.Answering.{effectBy, effectOf}

@@ -23,7 +23,8 @@ use Rattle.request.specs.Carried.{carriedRequest}
 use Rattle.condition.specs.declared.Condition.{Condition}
 use Rattle.condition.specs.Condition.{empty}
 use Rattle.panel.specs.declared.Heard.{Heard}
-use Rattle.operations.specs.Operations.{refusedWith, withShip, withLoad, withColumns, withHold}
+use Rattle.storing.specs.Storing.{withShip, withLoad, withColumns, withHold}
+use Rattle.operations.specs.Operations.{refusedWith}
 use Rattle.panel.specs.Step.{leastRoom, Outcome, answered, outcomeOf}
 
 -- what the tests of the whole line leave to be answered: the code that turns the line down, or 0 and its request

@@ -135,11 +135,11 @@ pub fn effect(c: Condition, r: Request) -> Condition
     let h = r.hold;
     let k = r.column;
     match kind {
-        Kind::ShipLine(s) => operations::with_ship(c, s),
-        Kind::ColumnLine => operations::with_column(c, k),
-        Kind::LoadLine(l) => operations::with_load(c, l),
-        Kind::HoldLine(n) => operations::with_hold(c, n, h),
-        Kind::DropLine(n) => operations::with_hold(c, n, record::no_hold()),
+        Kind::ShipLine(s) => storing::with_ship(c, s),
+        Kind::ColumnLine => storing::with_column(c, k),
+        Kind::LoadLine(l) => storing::with_load(c, l),
+        Kind::HoldLine(n) => storing::with_hold(c, n, h),
+        Kind::DropLine(n) => storing::with_hold(c, n, record::no_hold()),
         Kind::JudgeLine => c,
         Kind::ClearLine => condition::empty_condition(),
         Kind::NoShape => c,

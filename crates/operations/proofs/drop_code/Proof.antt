@@ -2,7 +2,7 @@
 use mathlib.Core.Path.{refl, sym, _∙_}
 use borrow.Author.Tests.{not-true, not-false}
 use Rattle.operations.specs.Operations.{dropOperation}
-use Rattle.operations.proofs.Taking.{place-within}
+use Rattle.storing.proofs.Taking.{place-within}
 use borrow.Author.Needs.{needs}
 use Rattle.operations.proofs.drop_code.Statement.{statement}
 use Rattle.operations.proofs.drop_code.Tie as tie

@@ -2,7 +2,8 @@
 use mathlib.Core.Path.{sym, ap, _∙_}
 use mathlib.Core.Bool.{cond}
 use Rattle.limits.specs.Limits.{loadLimits}
-use Rattle.operations.specs.Operations.{withLoad, taken, refusedWith, loadOperation}
+use Rattle.storing.specs.Storing.{withLoad}
+use Rattle.operations.specs.Operations.{taken, refusedWith, loadOperation}
 use Rattle.operations.proofs.Effects.{by-cond}
 use borrow.Author.Needs.{needs}
 use Rattle.operations.proofs.load_code.Statement.{statement}

@@ -2,7 +2,8 @@
 use mathlib.Core.Path.{sym, ap, _∙_}
 use mathlib.Core.Bool.{cond}
 use Rattle.limits.specs.Limits.{shipLimits}
-use Rattle.operations.specs.Operations.{withShip, taken, refusedWith, shipOperation}
+use Rattle.storing.specs.Storing.{withShip}
+use Rattle.operations.specs.Operations.{taken, refusedWith, shipOperation}
 use Rattle.operations.proofs.Effects.{by-cond}
 use borrow.Author.Needs.{needs}
 use Rattle.operations.proofs.ship_code.Statement.{statement}

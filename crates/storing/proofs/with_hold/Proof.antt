@@ -2,10 +2,10 @@
 use mathlib.Core.Path.{refl, sym, _∙_}
 use native.Mathlib.Omega.{arith}
 use borrow.Author.Tests.{not-true, not-false}
-use Rattle.operations.proofs.Taking.{place-within}
+use Rattle.storing.proofs.Taking.{place-within}
 use borrow.Author.Needs.{needs}
-use Rattle.operations.proofs.with_hold.Statement.{statement}
-use Rattle.operations.proofs.with_hold.Tie as tie
+use Rattle.storing.proofs.with_hold.Statement.{statement}
+use Rattle.storing.proofs.with_hold.Tie as tie
 
 returns : tie.Need-returns
 returns c = rw (sym (c .before .place-limits .ensures) ∙ not-true _ (c .if1 .taken)) refl

@@ -11,7 +11,7 @@ use Rattle.record.specs.declared.Columns.{Columns}
 use Rattle.record.specs.Held.{held}
 use Rattle.columns.specs.declared.Added.the-variants.{Taken}
 use Rattle.columns.specs.Columns.{columnAnswer, withColumn}
-use Rattle.operations.proofs.Taking.{taken-is}
+use Rattle.storing.proofs.Taking.{taken-is}
 
 pub record Fitting (cs : Columns) : Type 0 where
   pub places : length (cs .places) ≡ 20

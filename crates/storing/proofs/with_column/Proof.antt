@@ -6,8 +6,8 @@ use borrow.Author.Tests.{le-leb, lt-leb}
 use Rattle.whole.proofs.Lists.{unmapped}
 use Rattle.record.specs.Held.{held}
 use borrow.Author.Needs.{needs}
-use Rattle.operations.proofs.with_column.Statement.{statement}
-use Rattle.operations.proofs.with_column.Tie as tie
+use Rattle.storing.proofs.with_column.Statement.{statement}
+use Rattle.storing.proofs.with_column.Tie as tie
 
 returns : tie.Need-returns
 returns c =
