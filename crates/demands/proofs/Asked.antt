@@ -16,7 +16,7 @@ use Rattle.condition.specs.declared.Condition.{Condition}
 use Rattle.panel.specs.Step.{Outcome, outcomeBy, outcomeOf, outcomeAfter, stepOf}
 use Rattle.demands.specs.Codes.{request, Asks}
 use Rattle.demands.specs.Codes.{SoundLine}
-use Rattle.panel.proofs.Answers.{line-sound}
+use Rattle.hearing.proofs.Hearing.{line-sound}
 
 -- a line to which none of 10 to 13 applies passes the tests of the whole line
 pub none-applies : (line : List ℕ) → readingOf line ≡ Sound → SoundLine line

@@ -8,7 +8,7 @@ use lib.Seq.{take-append-add, length-take-le}
 use borrow.Author.Tests.{le-ltb}
 use Rattle.reply.specs.Written.{over}
 use Rattle.condition.specs.declared.Condition.{Condition}
-use Rattle.panel.specs.declared.Heard.{Heard}
+use Rattle.hearing.specs.declared.Heard.{Heard}
 use Rattle.panel.specs.Step.{stepOf, conditionAfter, outcomes}
 use Rattle.panel.specs.Answering.{heardOutcome}
 use Rattle.input.specs.Lines.{Cut, cut, lineLength, between}

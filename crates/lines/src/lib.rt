@@ -1,6 +1,6 @@
 // Lines taken from blocks of input, with their replies behind those that wait. Nothing here reads or writes.
 use condition::Condition;
-use panel::Heard;
+use hearing::Heard;
 use panel::Replied;
 ghost use mathlib.Core.Path.{_≡_};
 ghost use Prim.Native.Nat.{_+_, _≤_, _<_};
@@ -60,7 +60,7 @@ fn take_lines(f: Feed, block: &[u8], at: usize, out: &mut [u8]) -> Taken
         if block.len() <= e {
             return stopped(c, left, used, filled, i);
         }
-        let h = panel::hear(&block[i..e]);
+        let h = hearing::hear(&block[i..e]);
         let r = answer_line(c, h, out, filled);
         let long = r.len;
         filled += long;
@@ -68,7 +68,7 @@ fn take_lines(f: Feed, block: &[u8], at: usize, out: &mut [u8]) -> Taken
         i = behind(block, e);
         if r.code == 0 {
             let q = h.request;
-            c = panel::effect(c, q);
+            c = effects::effect(c, q);
         }
     }
     stopped(c, left, used, filled, i)

@@ -9,34 +9,19 @@ use borrow.Author.Tests.{lt-ltb, le-ltb, ne-eqb, eqb-false}
 use Rattle.line_codes.specs.declared.Reading.{Reading}
 use Rattle.line_codes.specs.declared.Reading.the-variants.{Sound, TooLong, BadByte, NotOneForm, BadNumber}
 use Rattle.text.specs.Token.{tokens}
-use Rattle.line_codes.specs.Line.{readingOf, readingCode}
-use Rattle.request.specs.declared.Kind.the-variants.{NoShape}
-use Rattle.request.specs.Shape.{plain}
+use Rattle.line_codes.specs.Line.{readingOf}
 use Rattle.condition.specs.declared.Condition.{Condition}
 use Rattle.operations.specs.Operations.{refusedWith}
-use Rattle.panel.specs.declared.Heard.{Heard}
+use Rattle.hearing.specs.declared.Heard.{Heard}
+use Rattle.hearing.specs.Hearing.{heardBy, heardOf}
+use Rattle.effects.specs.Effect.{effectOf}
 use Rattle.panel.specs.Step.{Outcome, answered, outcomeOf, outcomeAfter, stepOf}
-use Rattle.panel.specs.Answering.{heardBy, heardOf, heardOutcome, effectOf}
+use Rattle.panel.specs.Answering.{heardOutcome}
 use Rattle.panel.proofs.Codes.{right}
 use Rattle.panel.proofs.Carrying.{carried-outcome}
 use Rattle.panel.proofs.Effects.{effect-is}
 
--- a line that passes the tests of the whole line: none of 10 to 13 applies
-pub line-sound : (t : Reading) → readingCode t ≡ 0 → t ≡ Sound
-line-sound Sound e = refl
-line-sound TooLong e = absurd (omega arith)
-line-sound BadByte e = absurd (omega arith)
-line-sound NotOneForm e = absurd (omega arith)
-line-sound BadNumber e = absurd (omega arith)
-
--- what is heard of a line that is turned down, and that it has the line's outcome
-pub heard-down : (line : List ℕ) (t : Reading) (n : ℕ) → n ≡ readingCode t → (n ≡ 0 → ⊥) → heardBy line t ≡ record { code = n; request = plain NoShape }
-heard-down line Sound n e p = absurd (p e)
-heard-down line TooLong n e p = rw e
-heard-down line BadByte n e p = rw e
-heard-down line NotOneForm n e p = rw e
-heard-down line BadNumber n e p = rw e
-
+-- what is heard of a line has its outcome
 module _ (c : Condition) (line : List ℕ) (n : ℕ) where
   heard-by : (t : Reading) → cond (eqb (heardBy line t .code) 0) (outcomeOf c (heardBy line t .request)) (answered (refusedWith (heardBy line t .code) c)) ≡ outcomeAfter c line t
   heard-by Sound = carried-outcome c (tokens line)

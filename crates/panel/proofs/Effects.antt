@@ -14,7 +14,7 @@ use Rattle.judging.specs.Judge.{judgedOf}
 use Rattle.storing.proofs.Taking.{taken-is}
 use Rattle.operations.proofs.Effects.{ship-effect, load-effect, column-passed, column-effect, hold-passed, hold-effect, drop-passed, drop-effect}
 use Rattle.panel.specs.Step.{verdictGiven, outcomeBy, outcomeOf}
-use Rattle.panel.specs.Answering.{effectBy, effectOf}
+use Rattle.effects.specs.Effect.{effectBy, effectOf}
 
 module _ (c : Condition) where
   -- judge changes nothing

@@ -1,23 +1,15 @@
-// The line: what is heard of it, its reply, its effect, and the step of one line.
+// The reply to what is heard of a line, and the step of one line.
 use condition::Condition;
+use hearing::Heard;
 use judging::Judged;
-use record::Column;
-use record::Columns;
-use record::Hold;
-use record::Load;
-use record::Rule;
-use record::Ship;
 use request::Kind;
 use request::Request;
-use stability::Judgement;
-use stability::Verdict;
-ghost use mathlib.Core.Path.{_≡_};
 ghost use Prim.Native.Nat.{_≤_};
 ghost use lib.ListN.{length};
 ghost use Rattle.reply.specs.Replies.{answerReply};
 ghost use Rattle.judging.specs.Judge.{judgedOf};
 ghost use Rattle.panel.specs.Step.{verdictGiven, outcomeOf, stepOf, Replies, Steps};
-ghost use Rattle.panel.specs.Answering.{heardOf, heardOutcome, effectOf};
+ghost use Rattle.panel.specs.Answering.{heardOutcome};
 
 // The least buffer that may be lent for a reply, in bytes.
 const LEAST_ROOM: usize = 96;
@@ -28,34 +20,11 @@ pub struct Replied {
     pub len: usize,
 }
 
-// What is heard of a line: the code that turns it down, or 0 and its request.
-pub struct Heard {
-    pub code: u8,
-    pub request: Request,
-}
-
 // What a line gives: its code, the reply's length and the condition after it.
 pub struct Stepped {
     pub code: u8,
     pub len: usize,
     pub after: Condition,
-}
-
-// ---- the line
-
-// The tests of the whole line, and the request of one that passes them.
-pub fn hear(line: &[u8]) -> Heard
-    ensures { λ r. ⌜ r ≡ heardOf (now (line .entry)) ⌝ }
-{
-    let found = line_codes::reading_code(line_codes::reading_of(line));
-    if found != 0 {
-        return Heard {
-            code: found,
-            request: request::plain(Kind::NoShape),
-        };
-    }
-    let request = request::request_of(line);
-    Heard { code: 0, request }
 }
 
 // ---- the replies
@@ -124,33 +93,13 @@ pub fn answer(c: Condition, h: Heard, out: &mut [u8]) -> Replied
     reply_to(c, request, out)
 }
 
-// ---- effect and step
-
-// What a request that was answered with 00 puts into the condition. The condition is large, and is copied wherever a function gives it: a
-// line that is turned down never comes here.
-pub fn effect(c: Condition, r: Request) -> Condition
-    ensures { λ a. ⌜ a ≡ effectOf c r ⌝ }
-{
-    let kind = r.kind;
-    let h = r.hold;
-    let k = r.column;
-    match kind {
-        Kind::ShipLine(s) => storing::with_ship(c, s),
-        Kind::ColumnLine => storing::with_column(c, k),
-        Kind::LoadLine(l) => storing::with_load(c, l),
-        Kind::HoldLine(n) => storing::with_hold(c, n, h),
-        Kind::DropLine(n) => storing::with_hold(c, n, record::no_hold()),
-        Kind::JudgeLine => c,
-        Kind::ClearLine => condition::empty_condition(),
-        Kind::NoShape => c,
-    }
-}
+// ---- the step
 
 // One line: its reply at the front of the lent buffer, and the condition after it.
 pub fn step(c: Condition, line: &[u8], out: &mut [u8]) -> Stepped
     ensures { λ r. ⌜ Steps (stepOf c (now (line .entry)) (length (now (out .entry)))) r (now (out .entry)) (now (out .exit)) ⌝ }
 {
-    let h = hear(line);
+    let h = hearing::hear(line);
     let a = answer(c, h, out);
     let code = a.code;
     let len = a.len;
@@ -162,6 +111,6 @@ pub fn step(c: Condition, line: &[u8], out: &mut [u8]) -> Stepped
         };
     }
     let request = h.request;
-    let after = effect(c, request);
+    let after = effects::effect(c, request);
     Stepped { code, len, after }
 }

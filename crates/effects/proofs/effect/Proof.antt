@@ -1,9 +1,9 @@
 -- `effect`: what a request that was answered with 00 puts into the condition.
 use mathlib.Core.Path.{refl}
-use Rattle.panel.specs.Answering.{effectOf}
+use Rattle.effects.specs.Effect.{effectOf}
 use borrow.Author.Needs.{needs}
-use Rattle.panel.proofs.effect.Statement.{statement}
-use Rattle.panel.proofs.effect.Tie as tie
+use Rattle.effects.proofs.effect.Statement.{statement}
+use Rattle.effects.proofs.effect.Tie as tie
 
 returns : tie.Need-returns
 unfolding effectOf

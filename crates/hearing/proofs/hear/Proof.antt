@@ -1,10 +1,10 @@
 -- `hear`: the tests of the whole line, and the request of one that passes them.
 use mathlib.Core.Path.{sym, _∙_, ap}
 use Rattle.line_codes.specs.Line.{readingOf, readingCode}
-use Rattle.panel.proofs.Answers.{line-sound, heard-down}
+use Rattle.hearing.proofs.Hearing.{line-sound, heard-down}
 use borrow.Author.Needs.{needs}
-use Rattle.panel.proofs.hear.Statement.{statement}
-use Rattle.panel.proofs.hear.Tie as tie
+use Rattle.hearing.proofs.hear.Statement.{statement}
+use Rattle.hearing.proofs.hear.Tie as tie
 
 returns : tie.Need-returns
 returns c =
