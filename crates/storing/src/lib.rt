@@ -1,6 +1,4 @@
 // How a record is put into the condition, of what was answered with 00.
-//
-// The condition is large, and is copied wherever a function gives it: a line that is turned down never comes here.
 use condition::Condition;
 use record::Column;
 use record::Hold;
@@ -14,6 +12,8 @@ ghost use Rattle.record.specs.Held.{held};
 ghost use Rattle.limits.specs.Limits.{placeLimits};
 ghost use Rattle.columns.specs.Columns.{withColumn};
 ghost use Rattle.storing.specs.Storing.{withShip, withLoad, withColumns, withHold};
+
+// The condition is large, and is copied wherever a function gives it: a line that is turned down never comes here.
 
 // A new ship replaces the former one.
 pub fn with_ship(c: Condition, s: Ship) -> Condition
