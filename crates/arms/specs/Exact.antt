@@ -1,6 +1,6 @@
 -- Document 01, the exact values, with no rounding: from the fields of a basis, which is the two columns around D, the load and the
--- whole W. The paper's numbers stand here once more, and no formula is shared with the definitions that compute the figures shown (Arms,
--- Area, Verdict). Each value is a whole number over one denominator above zero, and the exact curves are the straight lines from each of
+-- whole W. The paper's numbers stand here once more, and no formula is shared with the definitions that compute the figures shown (Arms
+-- here, Area in `area`, Verdict in `stability`). Each value is a whole number over one denominator above zero, and the exact curves are the straight lines from each of
 -- the ten angles to the next. Angles and stretches are counted from 0.
 use mathlib.Core.Path.{_≡_}
 use mathlib.Core.List.{List, [], _∷_}

@@ -1,4 +1,4 @@
--- Document 01, Void depth and what a cell can hold, in its own words and numbers: what each figure of a cell is, by products and of its
+-- Document 01, Void depth and what a cell can hold, in its own words and numbers: what each figure of a cell is, by products of its
 -- fields. Nothing here rests on the definitions by which the program is proved; proofs/Figures.antt shows that these give such figures.
 use mathlib.Core.Path.{_≡_}
 use mathlib.Core.List.{List, [], _∷_}

@@ -1,7 +1,7 @@
 -- The three demands (document 00), of the step of one line and of its repetition over any list of lines. Proved in
 -- proofs/Demands.antt. What each layer says by itself stands there: line_codes/specs/Codes.antt, limits/specs/Ranges.antt,
 -- cells/specs/Figures.antt, grain/specs/Figures.antt, stability/specs/Demand.antt, reply/specs/Shown.antt, judging/specs/Codes.antt,
--- operations/specs/Codes.antt and Stores.antt; the codes of a line in Codes.antt, the worked runs in Runs.antt.
+-- operations/specs/Codes.antt, storing/specs/Stores.antt; the codes of a line in Codes.antt, the worked runs in Runs.antt.
 use mathlib.Core.Path.{_≡_}
 use mathlib.Core.Bool.{true}
 use mathlib.Core.List.{List, [], _∷_, _++_}
@@ -56,7 +56,7 @@ abbrev pub RefusalsChangeNothing : Type 0
 RefusalsChangeNothing =
     (c : Condition) (line : List ℕ) (lent : ℕ) → (stepOf c line lent .code ≡ 0 → ⊥) → stepOf c line lent .after ≡ c
 
--- what a line that is taken leaves behind: its own record in its place, everything else as it was (operations/specs/Stores.antt)
+-- what a line that is taken leaves behind: its own record in its place, everything else as it was (storing/specs/Stores.antt)
 pub record Stores (c : Condition) (line : List ℕ) (after : Condition) : Type 0 where
   pub ship : (s : Ship) → request line .kind ≡ ShipLine s → ShipStored c s after
   pub load : (l : Load) → request line .kind ≡ LoadLine l → LoadStored c l after
@@ -173,7 +173,7 @@ pub record Demands : Type 0 where
   pub numbersAreRead : NumbersAreRead
   pub weightIsTotal : WeightIsTotal
   pub verdictsHold : VerdictsHold
-  -- what is said of each stretch is said of each angle (stability/specs/Exact.antt)
+  -- what is said of each stretch is said of each angle (arms/specs/Exact.antt)
   pub everyAngle : EveryAngle
   pub reachedAreWithin : ReachedAreWithin
   pub rangesAreWithin : RangesAreWithin

@@ -1,4 +1,4 @@
--- Document 01, Shifted voids of a trimmed section to the sum, in its own words and numbers: what each figure of a hold is, by products and of
+-- Document 01, Shifted voids of a trimmed section to the sum, in its own words and numbers: what each figure of a hold is, by products of
 -- the records' fields. Nothing here rests on the definitions by which the program is proved; proofs/Figures.antt shows that these give such
 -- figures. Cells and parts are counted from 0.
 use mathlib.Core.Path.{_≡_}

@@ -1,7 +1,7 @@
 -- Points on straight lines: between two points, rounded down, and on lines whose ends lie close.
 use mathlib.Core.Path.{_≡_, refl, ap, subst₂}
 use mathlib.Core.Logic.{⊎-elim}
-use Prim.Native.Nat.{ℕ, _+_, _*_, _-_, _/_, _≤_, _<_}
+use Prim.Native.Nat.{ℕ, _+_, _*_, _-_, _≤_, _<_}
 use native.Mathlib.Nat.{mul-le-mul-left, mul-le-mul-right, mul-lt-mul-of-pos-left, mul-lt-mul-of-pos-right, le-of-mul-le-mul-left, le-of-mul-le-mul-right, lt-of-mul-lt-mul-right, eq-zero-or-pos, mul-comm, mul-sub, le-of-lt, le-trans}
 use native.Mathlib.Omega.{arith}
 use lib.IntN.{ℤ}

@@ -41,7 +41,7 @@ anglesBelow (suc n) x = cond (ltb (angle (suc n)) x) (suc n) (anglesBelow n x)
 abbrev pub stretchOf : ℕ → ℕ
 stretchOf x = anglesBelow 8 x
 
--- the plain rule of the stretch: x lies between its two angles (`stretch-is`, proofs/Tens.antt)
+-- the plain rule of the stretch: x lies between its two angles (`stretch-is`, proofs/Stretch.antt)
 pub record Stretch (x i : ℕ) : Type 0 where
   pub within : i < 9
   pub from : angle i ≤ x
