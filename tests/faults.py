@@ -208,6 +208,8 @@ FAULTS = {
     "room_128": Fault("15 below 128 bytes", [("", ROOM_128)]),
     "full_at_once": Fault("23 at once, from the first column on", [("", FULL_AT_ONCE)]),
     "hatch_100": Fault("a hatch's depth OPEN + 100", [edit("cells", "theorem_hatch_100")]),
+    "whole_millimetres": Fault("a wing's depth rounded up to whole mm", [edit("cells", "theorem_whole_millimetres")]),
+    "area_down": Fault("a cell's area rounded down", [edit("cells", "theorem_area_rounded_down")]),
     "table_2m_470": Fault("the table's entry of 2.0 m 470", [edit("cells", "theorem_table_2m_470")]),
     "120_mm_per_metre": Fault("120 mm more for each metre above 8.0 m", [edit("cells", "theorem_120_mm_per_metre")]),
     "quarter_square": Fault("w × g − slope × w²/4 for what a cell holds", [edit("cells", "theorem_lip_with_quarter_square")]),

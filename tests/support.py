@@ -11,7 +11,8 @@ BUILT = REPOSITORY / "target" / "tests"
 CRATES = REPOSITORY / "crates"
 SERVICE = REPOSITORY / "target" / "bin" / "panel_service"
 SMALL_SERVICE = REPOSITORY / "target" / "bin" / "small_service"
-VECTORS = REPOSITORY.parent / "shared" / "vectors"
+# The right outputs of a panel with every request up to the newest that has landed.
+VECTORS = REPOSITORY.parent / "shared" / "vectors" / "p01"
 PAPER = REPOSITORY.parent / "shared" / "papers" / "01-scope.md"
 
 KINDS = ["runs", "edges", "damaged", "mixed"]

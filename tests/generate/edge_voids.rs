@@ -138,7 +138,7 @@ fn sections_with_last_area(chance: &mut Chance, width: i128, area: i128) -> Vec<
     judged_sections(chance, &sections)
 }
 
-/// Wings next to each entry of the table, and girders next to the least depth of 100.
+/// Wings next to each entry of the table, and girders next to the least depth of 100 mm.
 pub fn wing_depths(chance: &mut Chance) -> Vec<String> {
     let mut sections = Vec::new();
     for _ in 0..6 {
@@ -148,14 +148,38 @@ pub fn wing_depths(chance: &mut Chance) -> Vec<String> {
             _ => chance.between(0, 20_000),
         }
         .clamp(0, 20_000);
-        let least = (0..=3_000).rfind(|&girder| grain::wing_depth(dist, girder) == 100).unwrap_or(0);
+        let least = (0..=3_000).rfind(|&girder| grain::wing_depth(dist, girder) == 1_000).unwrap_or(0);
         let girder = match chance.below(3) {
             0 => least + chance.between(-1, 4),
             1 => 600 + chance.between(-4, 4),
             _ => chance.between(0, 3_000),
         }
         .clamp(0, 3_000);
-        sections.push(vec![Cell::Wing { width: 10_000, dist, girder, lip: 10_000 }]);
+        // With all but the first of these widths the area can lie between two whole mm² before it is rounded.
+        let width = chance.pick(&[10_000, 9_999, 9_997, 9_991, 1]);
+        sections.push(vec![Cell::Wing { width, dist, girder, lip: 10_000 }]);
+    }
+    judged_sections(chance, &sections)
+}
+
+/// Wings whose area, rounded up, is just the most they can hold, one mm² more and one less, as the last cell and before it.
+pub fn wings_next_to_the_most_held(chance: &mut Chance) -> Vec<String> {
+    let behind = Cell::Void { width: 5_000, depth: 3, lip: 4_000 };
+    let mut sections = Vec::new();
+    for wanted in [0, 1, -1] {
+        let (dist, girder) = (chance.between(0, 20_000), chance.between(0, 1_000));
+        let lip = chance.between(grain::wing_depth(dist, girder) / 10 + 1, 5_000);
+        let found = (1..=20_000).map(|width| Cell::Wing { width, dist, girder, lip }).find(|cell| {
+            let unrounded = cell.width() * grain::depth(cell) % 10 != 0;
+            unrounded && grain::void_area(cell) - grain::most_held(cell.width(), lip) == wanted
+        });
+        if let Some(wing) = found {
+            sections.push(vec![wing]);
+            sections.push(vec![wing, behind]);
+        }
+    }
+    if sections.is_empty() {
+        sections.push(vec![behind]);
     }
     judged_sections(chance, &sections)
 }

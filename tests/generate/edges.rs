@@ -9,7 +9,7 @@ use crate::spelling;
 type Family = fn(&mut Chance) -> Vec<String>;
 
 /// Single fields have a greater share, since there are many of them.
-const FAMILIES: [Family; 29] = [
+const FAMILIES: [Family; 30] = [
     edge_figures::field_limits,
     edge_figures::field_limits,
     edge_figures::field_limits,
@@ -33,6 +33,7 @@ const FAMILIES: [Family; 29] = [
     edge_voids::triangles_and_trapeziums,
     edge_voids::bases_at_whole_roots,
     edge_voids::wing_depths,
+    edge_voids::wings_next_to_the_most_held,
     edge_voids::roundings_up,
     edge_figures::displacements_at_columns,
     edge_figures::twenty_columns,

@@ -1,7 +1,7 @@
 //! From void depth to the weight moment of a hold: code 21.
 //!
-//! Lengths are in mm, areas in mm², section moments in mm³, part and hold moments in thousandths of m⁴, weight
-//! moments in kg·m.
+//! Lengths are in mm, void depths in tenths of a mm, areas in mm², section moments in mm³, part and hold moments in
+//! thousandths of m⁴, weight moments in kg·m.
 
 use crate::rounding::{rounded_down, rounded_up};
 use crate::shape::{Cell, Hold, Mode, Part, MOST_CELLS};
@@ -14,6 +14,8 @@ const TABLE_END: i128 = 8_000;
 /// Above the table: 80 mm for each metre.
 const DEEPER_FOR_EACH_METRE: i128 = 80;
 const LEAST_WING_DEPTH: i128 = 100;
+/// A void depth is in tenths of a mm: so many in one.
+const TENTHS: i128 = 10;
 
 /// Slopes are so many hundred-thousandths.
 const SLOPE_UNIT: i128 = 100_000;
@@ -41,24 +43,25 @@ fn standard_depth_in_500ths(dist: i128) -> i128 {
     STANDARD_DEPTHS[entry] * (TABLE_STEP - beyond) + STANDARD_DEPTHS[entry + 1] * beyond
 }
 
-/// A wing's depth: the standard depth plus 0.75 × (GIRDER − 600), at least 100, rounded up once.
+/// A wing's depth in tenths: the standard depth plus 0.75 × (GIRDER − 600), at least 100 mm, rounded up once to a
+/// tenth.
 pub fn wing_depth(dist: i128, girder: i128) -> i128 {
     let depth_in_500ths = standard_depth_in_500ths(dist) + 375 * (girder - 600);
-    rounded_up(depth_in_500ths.max(500 * LEAST_WING_DEPTH), 500)
+    rounded_up(TENTHS * depth_in_500ths.max(500 * LEAST_WING_DEPTH), 500)
 }
 
-/// The void depth of a cell.
+/// The void depth of a cell in tenths; those of a hatch and of a void cell are whole mm.
 pub fn depth(cell: &Cell) -> i128 {
     match *cell {
         Cell::Wing { dist, girder, .. } => wing_depth(dist, girder),
-        Cell::Hatch { open, .. } => open + 150,
-        Cell::Void { depth, .. } => depth,
+        Cell::Hatch { open, .. } => TENTHS * (open + 150),
+        Cell::Void { depth, .. } => TENTHS * depth,
     }
 }
 
-/// A cell's void area: width × depth.
+/// A cell's void area: width × depth, rounded up to whole mm².
 pub fn void_area(cell: &Cell) -> i128 {
-    cell.width() * depth(cell)
+    rounded_up(cell.width() * depth(cell), TENTHS)
 }
 
 // ---- Shifted voids of a trimmed section ----
@@ -183,13 +186,13 @@ mod tests {
     #[test]
     fn wing_at_distance_4000() {
         let depths = [600, 0, 160, 161].map(|girder| wing_depth(4_000, girder));
-        assert_eq!(depths, [430, 100, 100, 101]);
+        assert_eq!(depths, [4_300, 1_000, 1_000, 1_008]);
     }
 
     #[test]
     fn wing_with_girder_600() {
         let depths = [8_000, 8_001, 5_250, 499].map(|dist| wing_depth(dist, 600));
-        assert_eq!(depths, [590, 591, 440, 570]);
+        assert_eq!(depths, [5_900, 5_901, 4_400, 5_700]);
     }
 
     #[test]
@@ -213,27 +216,49 @@ mod tests {
             (8_000, 590),
         ];
         for (dist, depth) in printed {
-            assert_eq!(wing_depth(dist, 600), depth, "distance {dist}");
+            assert_eq!(wing_depth(dist, 600), 10 * depth, "distance {dist}");
         }
-        assert_eq!(wing_depth(0, 600), 570);
-        assert_eq!(wing_depth(501, 600), 570, "569.92 rounded up");
-        assert_eq!(wing_depth(513, 600), 569, "568.96 rounded up");
-        assert_eq!(wing_depth(9_000, 600), 670);
-        assert_eq!(wing_depth(20_000, 600), 1_550);
+        assert_eq!(wing_depth(0, 600), 5_700);
+        assert_eq!(wing_depth(501, 600), 5_700, "569.92 rounded up");
+        assert_eq!(wing_depth(502, 600), 5_699, "569.84 rounded up");
+        assert_eq!(wing_depth(513, 600), 5_690, "568.96 rounded up");
+        assert_eq!(wing_depth(9_000, 600), 6_700);
+        assert_eq!(wing_depth(20_000, 600), 15_500);
     }
 
     #[test]
     fn the_girder_term_is_added_before_the_least_depth_and_rounded_once() {
-        assert_eq!(wing_depth(5_250, 601), 441, "440.75 rounded up");
-        assert_eq!(wing_depth(5_251, 603), 443, "440.04 + 2.25 = 442.29 rounded up once");
-        assert_eq!(wing_depth(8_001, 601), 591, "590.08 + 0.75 = 590.83, not 591 + 1");
-        assert_eq!(wing_depth(8_000, 3_000), 2_390);
+        assert_eq!(wing_depth(5_250, 601), 4_408, "440.75 rounded up");
+        assert_eq!(wing_depth(5_251, 603), 4_423, "440.04 + 2.25 = 442.29 rounded up once, not 440.1 + 2.3");
+        assert_eq!(wing_depth(8_001, 601), 5_909, "590.08 + 0.75 = 590.83");
+        assert_eq!(wing_depth(8_000, 3_000), 23_900);
+        assert_eq!(wing_depth(20_000, 3_000), 33_500, "the deepest");
     }
 
     #[test]
     fn depths_of_hatch_and_void() {
-        assert_eq!(depth(&Cell::Hatch { width: 1, open: 300, lip: 0 }), 450);
-        assert_eq!(depth(&void(1, 300, 0)), 300);
+        assert_eq!(depth(&Cell::Hatch { width: 1, open: 300, lip: 0 }), 4_500);
+        assert_eq!(depth(&void(1, 300, 0)), 3_000);
+    }
+
+    #[test]
+    fn areas_are_whole_mm2_rounded_up() {
+        let wing = |width, dist, girder| void_area(&Cell::Wing { width, dist, girder, lip: 0 });
+        assert_eq!(wing(3, 4_000, 161), 303, "3 × 100.8 = 302.4");
+        assert_eq!(wing(10, 8_001, 600), 5_901, "10 × 590.1, a whole number");
+        assert_eq!(wing(1, 8_001, 600), 591);
+        assert_eq!(void_area(&Cell::Hatch { width: 7, open: 301, lip: 0 }), 7 * 451);
+        assert_eq!(void_area(&void(7, 301, 0)), 7 * 301);
+    }
+
+    #[test]
+    fn a_section_that_a_tenth_makes_greater() {
+        // The base is rounded down: with whole mm the area was greater, and the moment smaller (2,369,778).
+        let part = Part::Section {
+            length: 20_000,
+            cells: vec![Cell::Wing { width: 18_789, dist: 14_268, girder: 2_495, lip: 10_000 }],
+        };
+        assert_eq!(weight_moment(&hold(Mode::Trimmed, 12_500, vec![part])), Some(2_369_999));
     }
 
     #[test]

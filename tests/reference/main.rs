@@ -1,4 +1,4 @@
-//! Reference program of the grain loading panel, written from document 01 alone.
+//! Reference program of the grain loading panel, written from documents 01 and 02 alone.
 //!
 //! It reads lines from standard input and writes one reply for each to standard output. All arithmetic is done in
 //! wide whole numbers and follows the paper's wording; the proved service is compared with it line by line.

@@ -1,16 +1,17 @@
 -- The definitions give the figures of a cell that the paper's words ask for.
 use mathlib.Core.Path.{_≡_, refl, sym, ap, _∙_}
 use Prim.Native.Nat.{ℕ, _+_, _*_, _-_, _/_, _%_, _≤_, _<_, max}
-use native.Mathlib.Nat.{lt-of-not-le}
+use native.Mathlib.Nat.{lt-of-not-le, le-antisymm, lt-of-mul-lt-mul-right}
 use native.Mathlib.Decide.{decLe}
 use native.Mathlib.Omega.{arith}
 use lib.ListN.{getD}
 use Rattle.whole.specs.Divide.{ceilDiv}
+use Rattle.whole.proofs.Dividing.{ceil-low, ceil-high}
 use Rattle.record.specs.declared.Cell.{Cell}
 use Rattle.record.specs.declared.Cell.the-variants.{Wing, Hatch, Void}
-use Rattle.cells.specs.Depth.{standardDepth, wingDepth, cellDepth, cellArea}
+use Rattle.cells.specs.Depth.{standardDepth, wingUnrounded, wingDepth, cellDepth, cellArea}
 use Rattle.cells.specs.Sizes.{mostHeld}
-use Rattle.cells.specs.Figures.{printedDistances, StandardDepth, WingDepth, CellArea, MostHeld}
+use Rattle.cells.specs.Figures.{RoundedUp, printedDistances, StandardDepth, WingUnrounded, WingDepth, CellArea, MostHeld}
 use Rattle.cells.proofs.Depths.{distance-is, below-first, above-last, interpolates}
 use Rattle.cells.proofs.Sizes.{most-triangle, most-trapezium, most-taken}
 
@@ -23,9 +24,8 @@ standard x =
       above = λ t e. omega (arith, above-last x (omega arith));
     }
 
-wing : (dist girder : ℕ) → WingDepth dist girder (wingDepth dist girder)
-unfolding wingDepth
-wing dist girder =
+pub unrounded : (dist girder : ℕ) → WingUnrounded dist girder (wingUnrounded dist girder)
+unrounded dist girder =
     record {
       standard = standardDepth dist;
       is = standard dist;
@@ -34,11 +34,22 @@ wing dist girder =
       notAbove = λ h. omega arith;
     }
 
+wing : (dist girder : ℕ) → WingDepth dist girder (wingDepth dist girder)
+unfolding wingDepth
+wing dist girder =
+    let e = wingUnrounded dist girder in
+    (e, unrounded dist girder, (ceil-low e 50 (omega arith), ceil-high e 50 (omega arith)))
+
+-- of whole mm nothing is rounded
+pub whole-mm : (w d : ℕ) → ceilDiv (w * (10 * d)) 10 ≡ w * d
+whole-mm w d = omega arith
+
 pub area-is : (c : Cell) → CellArea c (cellArea c)
 unfolding cellArea cellDepth
-area-is (Wing w d g l) = (wingDepth d g, wing d g, refl)
-area-is (Hatch w o l) = refl
-area-is (Void w d l) = refl
+area-is (Wing w d g l) =
+    (wingDepth d g, wing d g, (ceil-low (w * wingDepth d g) 10 (omega arith), ceil-high (w * wingDepth d g) 10 (omega arith)))
+area-is (Hatch w o l) = whole-mm w (o + 150)
+area-is (Void w d l) = whole-mm w d
 
 -- ---- what a cell can hold
 pub most-is : (w g : ℕ) → MostHeld w g (mostHeld w g)
@@ -60,21 +71,31 @@ standard-only x d s = by (decLe 500 x) (decLe 8000 x)
         let p : x ≡ getD printedDistances (x / 500 - 1) 0 + x % 500 = omega (arith, distance-is (x / 500 - 1) (omega arith)) in
         s .between (x / 500 - 1) (x % 500) k (omega arith) p ∙ sym (ap standardDepth p ∙ interpolates (x / 500 - 1) (x % 500) k (omega arith))
 
+pub unrounded-only : (dist girder e : ℕ) → WingUnrounded dist girder e → e ≡ wingUnrounded dist girder
+unrounded-only dist girder e u = by (decLe e (500 * 100)) (standard-only dist (u .standard) (u .is))
+  where
+    by : Dec (e ≤ 500 * 100) → u .standard ≡ standardDepth dist → e ≡ wingUnrounded dist girder
+    by (yes l) s = omega (arith, u .least, u .notBelow)
+    by (no n) s = omega (arith, u .notBelow, u .notAbove (lt-of-not-le n))
+
+-- rounded up, there is one figure
+up-only : (n d m : ℕ) → 0 < d → RoundedUp n d m → m ≡ ceilDiv n d
+up-only n d m p (low, high) = le-antisymm (below (ceilDiv n d) m (omega (arith, ceil-low n d p)) high) (below m (ceilDiv n d) low (ceil-high n d p))
+  where
+    below : (a b : ℕ) → n ≤ d * a → d * b < n + d → b ≤ a
+    below a b h k = let s : b < a + 1 = lt-of-mul-lt-mul-right d (omega arith) in omega arith
+
 wing-only : (dist girder depth : ℕ) → WingDepth dist girder depth → depth ≡ wingDepth dist girder
 unfolding wingDepth
-wing-only dist girder depth w =
-    let e = standard-only dist (w .standard) (w .is) in
-    by (decLe depth 100) e
-  where
-    by : Dec (depth ≤ 100) → w .standard ≡ standardDepth dist → depth ≡ ceilDiv (max (500 * 100) (standardDepth dist + 375 * girder - 375 * 600)) 500
-    by (yes l) e = omega (arith, w .least, w .notBelow)
-    by (no n) e = omega (arith, w .notBelow, w .notAbove (lt-of-not-le n))
+wing-only dist girder depth (e, u, up) =
+    up-only e 50 depth (omega arith) up ∙ ap (λ (n : ℕ). ceilDiv n 50) (unrounded-only dist girder e u)
 
 pub area-only : (c : Cell) (a : ℕ) → CellArea c a → a ≡ cellArea c
 unfolding cellArea cellDepth
-area-only (Wing w d g l) a (depth, is, e) = e ∙ ap (λ (n : ℕ). w * n) (wing-only d g depth is)
-area-only (Hatch w o l) a e = e
-area-only (Void w d l) a e = e
+area-only (Wing w d g l) a (depth, is, up) =
+    up-only (w * depth) 10 a (omega arith) up ∙ ap (λ (n : ℕ). ceilDiv (w * n) 10) (wing-only d g depth is)
+area-only (Hatch w o l) a e = e ∙ sym (whole-mm w (o + 150))
+area-only (Void w d l) a e = e ∙ sym (whole-mm w d)
 
 pub most-only : (w g m : ℕ) → MostHeld w g m → m ≡ mostHeld w g
 most-only w g m s = by (decLe (100000 * g) (26795 * w))

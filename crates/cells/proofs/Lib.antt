@@ -1,3 +1,4 @@
 pub mod Depths
 pub mod Sizes
 pub mod Figures
+pub mod Tenths

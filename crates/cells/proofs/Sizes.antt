@@ -33,10 +33,10 @@ standard-le x h = go (decLe 500 x) (decLe 8000 x)
     go (yes f) (yes e) = omega (arith, above-last x e)
     go (yes f) (no e) = omega (arith, between x f (lt-of-not-le e), between-le x f (lt-of-not-le e))
 
-pub wing-le : (dist girder : ℕ) → dist ≤ 20000 → girder ≤ 3000 → wingDepth dist girder ≤ 5000
+pub wing-le : (dist girder : ℕ) → dist ≤ 20000 → girder ≤ 3000 → wingDepth dist girder ≤ 33500
 unfolding wingDepth
 wing-le dist girder h k = omega (arith, standard-le dist h)
 
-pub area-le : (c : Cell) → cellDepth c ≤ 5000 → cellArea c ≤ 5000 * cellWidth c
+pub area-le : (c : Cell) → cellDepth c ≤ 50000 → cellArea c ≤ 5000 * cellWidth c
 unfolding cellArea
 area-le c h = omega (arith, mul-le-mul-left (cellWidth c) h)

@@ -1,4 +1,4 @@
--- Document 01, Void depth.
+-- Document 01, Void depth, with the tenths of document 02, P1.
 use mathlib.Core.Bool.{cond}
 use mathlib.Core.List.{List, [], _∷_}
 use Prim.Native.Nat.{ℕ, _+_, _*_, _-_, _/_, max}
@@ -31,17 +31,22 @@ standardDepth x =
     cond (ltb x 500) (500 * 570)
     (cond (leb 8000 x) (500 * 590 + 40 * (x - 8000)) (betweenEntries (x / 500 - 1) x))
 
--- A wing's depth in mm: the standard depth plus 0.75 × (GIRDER − 600), which is 375/500 for each mm, at least 100, and
--- rounded up once. (Where the sum is below zero the least depth counts, so that nothing is lost by the cut at zero.)
-unfoldable pub wingDepth : (dist girder : ℕ) → ℕ
-wingDepth dist girder = ceilDiv (max (500 * 100) (standardDepth dist + 375 * girder - 375 * 600)) 500
+-- 500 times a wing's depth in mm, not rounded: the standard depth plus 0.75 × (GIRDER − 600), which is 375/500 for each mm, and at
+-- least 100. (Where the sum is below zero the least depth counts, so that nothing is lost by the cut at zero.)
+abbrev pub wingUnrounded : (dist girder : ℕ) → ℕ
+wingUnrounded dist girder = max (500 * 100) (standardDepth dist + 375 * girder - 375 * 600)
 
--- a cell's depth, in mm
+-- a wing's depth in tenths of a mm, 50/500 each: that, rounded up once
+unfoldable pub wingDepth : (dist girder : ℕ) → ℕ
+wingDepth dist girder = ceilDiv (wingUnrounded dist girder) 50
+
+-- a cell's depth in tenths of a mm; a hatch's and a void cell's are whole mm
 unfoldable pub cellDepth : Cell → ℕ
 cellDepth (Wing w dist girder lip) = wingDepth dist girder
-cellDepth (Hatch w opening lip) = opening + 150
-cellDepth (Void w depth lip) = depth
+cellDepth (Hatch w opening lip) = 10 * (opening + 150)
+cellDepth (Void w depth lip) = 10 * depth
 
--- a cell's void area, in mm²: all that a section takes from the depth
+-- a cell's void area, in whole mm²: width × depth, rounded up once. All that a section takes from the depth. (What the two steps
+-- cost: `AreaByDepth`, Figures.antt.)
 unfoldable pub cellArea : Cell → ℕ
-cellArea c = cellWidth c * cellDepth c
+cellArea c = ceilDiv (cellWidth c * cellDepth c) 10

@@ -1,6 +1,7 @@
 // The cells of a section: void depth, void area, and the most that a cell can hold.
 ghost use mathlib.Core.Path.{_≡_};
 ghost use Prim.Native.Nat.{_<_, _^_, max};
+ghost use Rattle.whole.specs.Divide.{ceilDiv};
 ghost use Rattle.cells.specs.Depth.{standardDepth, wingDepth, cellDepth};
 ghost use Rattle.cells.specs.Sizes.{mostHeld, sizesOf};
 use record::Cell;
@@ -59,19 +60,20 @@ fn greater(a: u64, b: u64) -> u64
     if a <= b { b } else { a }
 }
 
-// A wing's depth, rounded up once.
+// A wing's depth in tenths of a mm, rounded up once.
 fn wing_depth(dist: u64, girder: u64) -> u64
     requires { ⌜ (dist < 65536) × (girder < 65536) ⌝ }
     ensures { λ r. ⌜ r ≡ wingDepth dist girder ⌝ }
-    ensures { λ r. ⌜ r < 2 ^ 17 ⌝ }
+    ensures { λ r. ⌜ r < 2 ^ 20 ⌝ }
 {
     let raised = standard_depth(dist) + 375 * girder;
-    whole::divide_up(greater(500 * 100, choice::beyond(raised, 375 * 600)), 500)
+    whole::divide_up(greater(500 * 100, choice::beyond(raised, 375 * 600)), 50)
 }
 
+// A cell's depth in tenths of a mm.
 fn depth_of(cell: Cell) -> u64
     ensures { λ r. ⌜ r ≡ cellDepth cell ⌝ }
-    ensures { λ r. ⌜ r < 2 ^ 17 ⌝ }
+    ensures { λ r. ⌜ r < 2 ^ 20 ⌝ }
 {
     match cell {
         Cell::Wing {
@@ -84,13 +86,22 @@ fn depth_of(cell: Cell) -> u64
             width: _,
             opening,
             lip: _,
-        } => opening as u64 + 150,
+        } => 10 * (opening as u64 + 150),
         Cell::Void {
             width: _,
             depth,
             lip: _,
-        } => depth as u64,
+        } => 10 * depth as u64,
     }
+}
+
+// An area from tenths of a mm² to whole mm², rounded up once: never less void than there is. Apart, so that the prover meets the division
+// by itself.
+fn whole_area(tenths: u64) -> u64
+    requires { ⌜ tenths < 2 ^ 40 ⌝ }
+    ensures { λ r. ⌜ r ≡ ceilDiv tenths 10 ⌝ }
+{
+    whole::divide_up(tenths, 10)
 }
 
 // The most that a cell of width w can hold against a lip g.
@@ -112,7 +123,7 @@ pub fn sizes_of(cell: Cell) -> CellSizes
     let lip = record::lip_of(cell) as u64;
     CellSizes {
         width,
-        area: width * depth_of(cell),
+        area: whole_area(width * depth_of(cell)),
         most: most_held(width, lip),
     }
 }

@@ -2,8 +2,10 @@
 -- second are chosen so that a slip in any rule of depths, shifted voids, weights, arms or verdict changes a reply, and so that two fields
 -- read in each other's place do (but VOID and GRAIN, which no figure takes, and EDGE under `old`): unlike columns with D between them;
 -- EDGE below 1,200 under `new`; an `old` ship with D 940, where the heeling arm at 1,200 is W itself, so that DIFF shows W to the unit;
--- wings, hatches and void cells, an excess that moves past a cell with room, a void that does not fit; FLOOD inside a step; each of 40
--- to 43 once, and a DIFF below zero beyond UPPER with 00.
+-- wings, hatches and void cells; a wing whose depth lies between two tenths and its area between two whole mm², 946.12 and 6,983,902.2;
+-- one whose two terms have hundredths, 447.34 + 189.75, so that each rounded by itself gives another tenth; one at the least depth; an
+-- excess that moves past a cell with room, a void that does not fit; FLOOD inside a step; each of 40 to 43 once, and a DIFF below zero
+-- beyond UPPER with 00.
 use mathlib.Core.Path.{_≡_}
 use mathlib.Core.List.{List, [], _∷_, map}
 use Prim.Native.String.{String}
@@ -60,8 +62,8 @@ second =
     ∷ "(column 683 7411 (0 640 1290 1560 1950 2600 3260 3870 4480 5090))"
     ∷ "(column 1307 7903 (0 712 1423 1711 2139 2851 3571 4259 4913 5543))"
     ∷ "(load 940 5317 83)"
-    ∷ "(hold 3 trimmed 12347 (part 1733 (wing 6250 1730 1210 450) (hatch 5110 870 0) (wing 7340 9270 940 3100) (void 4730 390 9370)))"
-    ∷ "(hold 7 voided 13861 (part 1919 (wing 4310 2630 850 0) (hatch 6120 910 1650) (wing 5290 5730 770 8650)) (part 1173 (void 5570 610 90) (wing 8080 410 1530 2870)))"
+    ∷ "(hold 3 trimmed 12347 (part 1733 (wing 6250 1730 1210 450) (hatch 5110 870 0) (wing 7381 9264 940 3100) (void 4730 390 9370)))"
+    ∷ "(hold 7 voided 13861 (part 1919 (wing 4310 2633 853 0) (hatch 6120 910 1650) (wing 5290 5730 770 8650)) (part 1173 (void 5570 610 90) (wing 8080 3630 133 2870)))"
     ∷ "(hold 16 partial 17489 (part 2211 8837 2213 4242))"
     ∷ "(judge)"
     ∷ "(ship new 950 3777)"
@@ -93,21 +95,21 @@ SecondRun =
     ∷ "(answer 00)\n"
     ∷ "(answer 00)\n"
     ∷ "(answer 00)\n"
-    ∷ "(verdict 00 2213634 115589 3777 1907181399)\n"
+    ∷ "(verdict 00 2213634 117120 3777 1911234868)\n"
     ∷ "(answer 00)\n"
-    ∷ "(verdict 41 2213634 -2711 3777 1907181399)\n"
+    ∷ "(verdict 41 2213634 -1160 3777 1911234868)\n"
     ∷ "(answer 21)\n"
     ∷ "(answer 00)\n"
-    ∷ "(verdict 40 -3090366 -877865 0 0)\n"
+    ∷ "(verdict 40 -3090366 -876314 0 0)\n"
     ∷ "(answer 00)\n"
     ∷ "(answer 00)\n"
-    ∷ "(verdict 43 2213634 115589 1333 33297901)\n"
+    ∷ "(verdict 43 2213634 117120 1333 33879194)\n"
     ∷ "(answer 00)\n"
     ∷ "(answer 00)\n"
     ∷ "(answer 00)\n"
-    ∷ "(verdict 42 1998560 1231560 4000 2624213253)\n"
+    ∷ "(verdict 42 1998560 1232283 4000 2626433542)\n"
     ∷ "(answer 00)\n"
-    ∷ "(verdict 00 1998560 1231560 1477 1277675207)\n"
+    ∷ "(verdict 00 1998560 1232283 1477 1278696842)\n"
     ∷ "(answer 00)\n"
-    ∷ "(verdict 00 1998560 1348026 1477 1445702110)\n"
+    ∷ "(verdict 00 1998560 1349085 1477 1447262434)\n"
     ∷ [])

@@ -23,12 +23,13 @@ use Rattle.record.specs.Held.{cellWidth, cellLip, cellsOf, partsOf}
 use Rattle.limits.specs.Limits.{partLimits, holdLimits}
 use Rattle.cells.specs.Depth.{cellArea}
 use Rattle.cells.specs.Sizes.{cellMost}
+use Rattle.cells.specs.Figures.{RoundedUp}
 use Rattle.cells.proofs.Figures.{area-is, most-is, area-only, most-only}
 use Rattle.grain.specs.Section.{Kept, kept, keptOf, base, firstMoment, oldTwice, fits, fitsFrom, sectionMoment}
 use Rattle.grain.specs.Slack.{slackMoment}
 use Rattle.grain.specs.Sum.{partSection, partMoment, percentage, holdMoment, weightMoment, partFits, holdFits}
 use Rattle.grain.specs.Within.{SectionWithin}
-use Rattle.grain.specs.Figures.{total, RoundedUp, cell, KeptAreas, Fits, FirstTaken, SectionMoment, PartFits, HoldFits, PartSection, percent, part, WeightMoment}
+use Rattle.grain.specs.Figures.{total, cell, KeptAreas, Fits, FirstTaken, SectionMoment, PartFits, HoldFits, PartSection, percent, part, WeightMoment}
 use Rattle.grain.proofs.Sections.{first-triangle, first-trapezium, trapezium-taken, base-is, areas-le, kept-sum, kept-length}
 use Rattle.grain.proofs.Walks.{part-within, cells-section}
 use Rattle.grain.proofs.Weights.{hold-within}

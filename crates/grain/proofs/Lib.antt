@@ -4,3 +4,4 @@ pub mod Weights
 pub mod Totals
 pub mod Accuracy
 pub mod Figures
+pub mod Tenths

@@ -67,7 +67,7 @@ cell-bounds (Wing w d g l) e =
     let t = and-true (within 1 40000 w) (within 0 20000 d) (wd .0) in
     record {
       width = within-true 1 40000 w (t .0) .high;
-      area = area-le (Wing w d g l) (wing-le d g (within-true 0 20000 d (t .1) .high) (within-true 0 3000 g (wd .1) .high));
+      area = area-le (Wing w d g l) (omega (arith, wing-le d g (within-true 0 20000 d (t .1) .high) (within-true 0 3000 g (wd .1) .high)));
     }
 cell-bounds (Hatch w o l) e =
     let t = and-true (within 1 40000 w) (within 0 3000 o) (and-true (within 1 40000 w && within 0 3000 o) (within 0 10000 l) e .0) in
@@ -79,7 +79,7 @@ cell-bounds (Void w d l) e =
     let t = and-true (within 1 40000 w) (within 0 5000 d) (and-true (within 1 40000 w && within 0 5000 d) (within 0 10000 l) e .0) in
     record {
       width = within-true 1 40000 w (t .0) .high;
-      area = area-le (Void w d l) (within-true 0 5000 d (t .1) .high);
+      area = area-le (Void w d l) (omega (arith, within-true 0 5000 d (t .1) .high));
     }
 
 -- the void area of a section within its limits

@@ -15,16 +15,12 @@ use Rattle.record.specs.declared.Part.{Part}
 use Rattle.record.specs.declared.Hold.{Hold}
 use Rattle.record.specs.Filler.{noPart}
 use Rattle.record.specs.Held.{cellWidth, cellLip, cellsOf, partsOf}
-use Rattle.cells.specs.Figures.{RoundedDown, CellArea, MostHeld}
+use Rattle.cells.specs.Figures.{RoundedUp, RoundedDown, CellArea, MostHeld}
 
 -- f 0 + f 1 + .. + f (n − 1)
 unfoldable pub total : ℕ → (ℕ → ℕ) → ℕ
 total zero f = 0
 total (suc n) f = f 0 + total n (λ i. f (suc i))
-
--- m is n/d rounded up
-abbrev pub RoundedUp : (n d m : ℕ) → Type 0
-RoundedUp n d m = (n ≤ d * m) × (d * m < n + d)
 
 -- ---- Shifted voids of a trimmed section
 

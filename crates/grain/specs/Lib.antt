@@ -4,3 +4,4 @@ pub mod Figures
 pub mod Slack
 pub mod Sum
 pub mod Walk
+pub mod Tenths

@@ -1,4 +1,5 @@
--- Document 01, Readings to check by: the proved set, as one table of what the definitions give and what the paper prints.
+-- Document 01, Readings to check by, with the depths in tenths of a mm as document 02, P1 has them: the proved set, as one table of what the
+-- definitions give and what the papers print.
 use mathlib.Core.Bool.{Bool}
 use mathlib.Core.List.{List, [], _∷_}
 use Prim.Native.Nat.{ℕ}
@@ -26,14 +27,14 @@ slackPart = record { length = 10000; breadth = 12000; void = 3000; grain = 6000;
 
 abbrev pub readings : List Reading
 readings =
-    (wingDepth 4000 600 reads 430)
-    ∷ (wingDepth 4000 0 reads 100)
-    ∷ (wingDepth 4000 160 reads 100)
-    ∷ (wingDepth 4000 161 reads 101)
-    ∷ (wingDepth 8000 600 reads 590)
-    ∷ (wingDepth 8001 600 reads 591)
-    ∷ (wingDepth 5250 600 reads 440)
-    ∷ (wingDepth 499 600 reads 570)
+    (wingDepth 4000 600 reads 4300)
+    ∷ (wingDepth 4000 0 reads 1000)
+    ∷ (wingDepth 4000 160 reads 1000)
+    ∷ (wingDepth 4000 161 reads 1008)
+    ∷ (wingDepth 8000 600 reads 5900)
+    ∷ (wingDepth 8001 600 reads 5901)
+    ∷ (wingDepth 5250 600 reads 4400)
+    ∷ (wingDepth 499 600 reads 5700)
     ∷ (mostHeld 2000 100 reads 18660)
     ∷ (base (cellArea (Void 10000 500 5000)) reads 6109)
     ∷ (sectionMoment (Void 10000 500 5000 ∷ []) reads 14818333334)

@@ -1,4 +1,4 @@
--- `depth_of`
+-- `depth_of`: a cell's depth in tenths of a mm.
 use mathlib.Core.Path.{refl}
 use Rattle.cells.specs.Depth.{cellDepth}
 use borrow.Author.Needs.{needs}
@@ -25,6 +25,8 @@ depth-of-spec =
     (λ c. search needs)
     (λ c. search needs)
     (λ c κs. search needs)
+    (λ c. search needs)
+    (λ c. search needs)
     (λ c. search needs)
     (λ c. search needs)
     (λ c. search needs)
