@@ -32,6 +32,9 @@ width-between k a b = ap₂ _-_ (b ∙ ap angle (add-one k)) a
 pub end-bounds : (ds : List ℤ) (k : ℕ) → Bounded ds → k < 10 → EndBounds (getD ds k (pos 0))
 end-bounds ds k b h = record { above = b .above k h; below = b .below k h }
 
+pub both-bounds : (ds : List ℤ) (k : ℕ) → Bounded ds → k < 9 → EndBounds (getD ds k (pos 0)) × EndBounds (getD ds (k + 1) (pos 0))
+both-bounds ds k b h = (end-bounds ds k b (omega arith), end-bounds ds (k + 1) b (omega arith))
+
 -- ---- a whole stretch
 own-plus : (h : ℕ) (z : ℤ) → h * plus z - h * minus z ≡ h * plus z
 own-plus h (pos n) = omega (arith, mul-zero h)

@@ -1,7 +1,6 @@
 -- Demand 3, of GM and at each of the ten angles: GM is below 300,000 exactly where the exact GM is; the exact difference of the arms is
 -- never below DIFF, and less than 3 above it.
 use mathlib.Core.Path.{_≡_}
-use mathlib.Core.Bool.{_&&_}
 use Prim.Native.Nat.{ℕ, _+_, _*_, _-_, _/_, _≤_, _<_}
 use native.Mathlib.Nat.{mul-le-mul-right, mul-lt-mul-of-pos-right, div-mul-le-self, lt-div-mul-add, mul-pos, mul-sub, le-of-lt}
 use native.Mathlib.Omega.{arith}
@@ -9,16 +8,14 @@ use lib.ListN.{getD}
 use lib.IntN.{pos}
 use Rattle.sign.specs.Sign.{AtMost, Under}
 use Rattle.whole.specs.Divide.{ceilDiv}
-use Rattle.whole.specs.Lists.{within}
 use Rattle.whole.proofs.Dividing.{ceil-low, ceil-high}
-use Rattle.whole.proofs.Lists.{and-true, within-true}
-use Rattle.limits.specs.Limits.{loadLimits}
 use Rattle.arms.specs.declared.Basis.{Basis}
 use Rattle.arms.specs.Angles.{angle, sine}
 use Rattle.arms.specs.Arms.{gm, span, past, fluidKG, spanKM, spanKN, knArm, kgArm, heelingArm, diffs, plusAt, minusAt}
 use Rattle.arms.specs.Exact.{apart, kmOver, knOver, kgOver, heelOver, den, exactKN, exactTaken, exactTen, NotUnder, LessOver, ExactGMBelow}
 use Rattle.arms.specs.Figures.{TowardsLower, DiffIs}
 use Rattle.arms.specs.Judgeable.{Judgeable}
+use Rattle.arms.proofs.Bounds.{load-bounds, span-some}
 use Rattle.arms.proofs.Floors.{floor-is}
 use Rattle.arms.proofs.Tens.{angle-is, sine-is, diff-reads}
 
@@ -52,19 +49,11 @@ close-three n d x y v z pd py pz =
     }
 
 module _ (b : Basis) (j : Judgeable b) where
-  pub span-some : 0 < span b
-  span-some = omega (arith, j .apart)
-
   heelDen-some : 0 < 20000 * b .load .d
-  unfolding loadLimits
-  heelDen-some =
-      let l = b .load in
-      let t = and-true (within 100 400000 (l .d) && within 1 50000 (l .kg)) (within 0 10000 (l .fs)) (j .load) .0 in
-      let d = and-true (within 100 400000 (l .d)) (within 1 50000 (l .kg)) t .0 in
-      omega (arith, within-true 100 400000 (l .d) d .low)
+  heelDen-some = omega (arith, load-bounds (b .load) (j .load) .d .low)
 
   pub den-some : 0 < den b
-  den-some = mul-pos span-some (omega (arith, heelDen-some))
+  den-some = mul-pos (span-some b j) (omega (arith, heelDen-some))
 
   -- D₂ − D is what is left of the span
   left : b .high .d - b .load .d ≡ span b - past b
@@ -89,7 +78,7 @@ module _ (b : Basis) (j : Judgeable b) where
       let r = diff-reads b k h in
       rw (r .pluses, r .minuses, kn-is k, kg-is k, heel-is k)
       (close-parts (den b) 3 (knArm b k) (kgArm b k + heelingArm b k) (spanKN b k * (1000 * (20000 * b .load .d))) _
-      (close-three (spanKN b k) (span b) (fluidKG b * sine k) 1000 (1000 * b .weight * (20000 - angle k)) (20000 * b .load .d) span-some (omega arith) heelDen-some))
+      (close-three (spanKN b k) (span b) (fluidKG b * sine k) 1000 (1000 * b .weight * (20000 - angle k)) (20000 * b .load .d) (span-some b j) (omega arith) heelDen-some))
 
   -- and what DIFF is made of
   pub tenth : (k : ℕ) → k < 10 → DiffIs b k (getD (diffs b) k (pos 0))
@@ -100,7 +89,7 @@ module _ (b : Basis) (j : Judgeable b) where
         kn = knArm b k;
         kg = kgArm b k;
         heeling = heelingArm b k;
-        knDown = rw (kn-is k) (omega (arith, div-mul-le-self (spanKN b k) (span b)), omega (arith, lt-div-mul-add {a = spanKN b k} span-some));
+        knDown = rw (kn-is k) (omega (arith, div-mul-le-self (spanKN b k) (span b)), omega (arith, lt-div-mul-add {a = spanKN b k} (span-some b j)));
         kgUp = rw (kg-is k) (ceil-low (fluidKG b * sine k) 1000 (omega arith), ceil-high (fluidKG b * sine k) 1000 (omega arith));
         heelingUp = rw (heel-is k) (ceil-low (1000 * b .weight * (20000 - angle k)) (20000 * b .load .d) heelDen-some, ceil-high (1000 * b .weight * (20000 - angle k)) (20000 * b .load .d) heelDen-some);
         less = omega (arith, r .pluses, r .minuses);
@@ -116,7 +105,7 @@ module _ (b : Basis) (j : Judgeable b) where
   -- GM is rounded down, and so below 300,000 exactly where the exact GM is
   pub gm-is : TowardsLower (kmOver b) (1000 * (b .load .kg + b .load .fs) * apart b) (apart b) (gm b)
   unfolding gm
-  gm-is = rw km-is (floor-is (spanKM b) (1000 * fluidKG b * span b) (span b) span-some)
+  gm-is = rw km-is (floor-is (spanKM b) (1000 * fluidKG b * span b) (span b) (span-some b j))
 
   pub gm-below : Under (gm b) (pos 300000) → ExactGMBelow b 300000
   gm-below u = omega (arith, gm-is .high, mul-le-mul-right (apart b) u)

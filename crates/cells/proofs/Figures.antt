@@ -1,6 +1,6 @@
 -- The definitions give the figures of a cell that the paper's words ask for.
-use mathlib.Core.Path.{_≡_, refl, sym, ap, _∙_}
-use Prim.Native.Nat.{ℕ, _+_, _*_, _-_, _/_, _%_, _≤_, _<_, max}
+use mathlib.Core.Path.{_≡_, sym, ap, _∙_}
+use Prim.Native.Nat.{ℕ, _+_, _*_, _-_, _/_, _%_, _≤_, _<_}
 use native.Mathlib.Nat.{lt-of-not-le, le-antisymm, lt-of-mul-lt-mul-right}
 use native.Mathlib.Decide.{decLe}
 use native.Mathlib.Omega.{arith}
@@ -14,6 +14,9 @@ use Rattle.cells.specs.Sizes.{mostHeld}
 use Rattle.cells.specs.Figures.{RoundedUp, printedDistances, StandardDepth, WingUnrounded, WingDepth, CellArea, MostHeld}
 use Rattle.cells.proofs.Depths.{distance-is, below-first, above-last, interpolates}
 use Rattle.cells.proofs.Sizes.{most-triangle, most-trapezium, most-taken}
+
+pub rounded-up : (n d : ℕ) → 0 < d → RoundedUp n d (ceilDiv n d)
+rounded-up n d p = (ceil-low n d p, ceil-high n d p)
 
 -- ---- depths and areas
 standard : (x : ℕ) → StandardDepth x (standardDepth x)
@@ -38,7 +41,7 @@ wing : (dist girder : ℕ) → WingDepth dist girder (wingDepth dist girder)
 unfolding wingDepth
 wing dist girder =
     let e = wingUnrounded dist girder in
-    (e, unrounded dist girder, (ceil-low e 50 (omega arith), ceil-high e 50 (omega arith)))
+    (e, unrounded dist girder, rounded-up e 50 (omega arith))
 
 -- of whole mm nothing is rounded
 pub whole-mm : (w d : ℕ) → ceilDiv (w * (10 * d)) 10 ≡ w * d
@@ -46,8 +49,7 @@ whole-mm w d = omega arith
 
 pub area-is : (c : Cell) → CellArea c (cellArea c)
 unfolding cellArea cellDepth
-area-is (Wing w d g l) =
-    (wingDepth d g, wing d g, (ceil-low (w * wingDepth d g) 10 (omega arith), ceil-high (w * wingDepth d g) 10 (omega arith)))
+area-is (Wing w d g l) = (wingDepth d g, wing d g, rounded-up (w * wingDepth d g) 10 (omega arith))
 area-is (Hatch w o l) = whole-mm w (o + 150)
 area-is (Void w d l) = whole-mm w d
 

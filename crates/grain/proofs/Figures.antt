@@ -8,10 +8,8 @@ use native.Mathlib.Omega.{arith}
 use lib.Dec.{leb}
 use lib.ListN.{length, getD}
 use borrow.Author.Tests.{leb-true, le-leb}
-use Rattle.whole.specs.Divide.{ceilDiv}
 use Rattle.whole.specs.Lists.{sumOf}
 use Rattle.whole.proofs.Lists.{all-at, all-from}
-use Rattle.whole.proofs.Dividing.{ceil-low, ceil-high}
 use Rattle.record.specs.declared.Mode.{Mode}
 use Rattle.record.specs.declared.Mode.the-variants.{Trimmed, Voided, Partial}
 use Rattle.record.specs.declared.Cell.{Cell}
@@ -24,7 +22,7 @@ use Rattle.limits.specs.Limits.{partLimits, holdLimits}
 use Rattle.cells.specs.Depth.{cellArea}
 use Rattle.cells.specs.Sizes.{cellMost}
 use Rattle.cells.specs.Figures.{RoundedUp}
-use Rattle.cells.proofs.Figures.{area-is, most-is, area-only, most-only}
+use Rattle.cells.proofs.Figures.{rounded-up, area-is, most-is, area-only, most-only}
 use Rattle.grain.specs.Section.{Kept, kept, keptOf, base, firstMoment, oldTwice, fits, fitsFrom, sectionMoment}
 use Rattle.grain.specs.Slack.{slackMoment}
 use Rattle.grain.specs.Sum.{partSection, partMoment, percentage, holdMoment, weightMoment, partFits, holdFits}
@@ -183,9 +181,6 @@ section-moment (c ∷ cs) w =
     }
 
 -- ---- the sum
-rounded-up : (n d : ℕ) → 0 < d → RoundedUp n d (ceilDiv n d)
-rounded-up n d p = (ceil-low n d p, ceil-high n d p)
-
 slack : (p : Part) → RoundedUp (46631 * (p .breadth * p .breadth * p .breadth)) 1200000 (slackMoment p)
 unfolding slackMoment
 slack p = (omega arith, omega arith)

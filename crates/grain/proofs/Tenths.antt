@@ -5,12 +5,11 @@ use mathlib.Core.List.{List, [], _∷_}
 use Prim.Native.Nat.{ℕ, _+_, _-_, _≤_}
 use native.Mathlib.Omega.{arith}
 use borrow.Author.Tests.{le-leb, leb-true}
-use Rattle.whole.proofs.Dividing.{ceil-low, ceil-high}
 use Rattle.record.specs.declared.Cell.{Cell}
 use Rattle.record.specs.declared.Cell.the-variants.{Wing, Hatch, Void}
 use Rattle.cells.specs.Depth.{wingUnrounded, cellArea}
 use Rattle.cells.specs.Sizes.{cellMost}
-use Rattle.cells.proofs.Figures.{unrounded}
+use Rattle.cells.proofs.Figures.{rounded-up, unrounded}
 use Rattle.cells.proofs.Tenths.{area-by-depth}
 use Rattle.grain.specs.Section.{fitsFrom}
 use Rattle.grain.specs.Tenths.{areaInWhole, fitsInWhole, FitsStill}
@@ -18,7 +17,7 @@ use Rattle.grain.specs.Tenths.{areaInWhole, fitsInWhole, FitsStill}
 not-above : (c : Cell) → cellArea c ≤ areaInWhole c
 not-above (Wing w d g l) =
     let e = wingUnrounded d g in
-    area-by-depth (Wing w d g l) e (unrounded d g) .notAboveWhole _ (ceil-low e 500 (omega arith), ceil-high e 500 (omega arith))
+    area-by-depth (Wing w d g l) e (unrounded d g) .notAboveWhole _ (rounded-up e 500 (omega arith))
 not-above (Hatch w o l) = omega (arith, area-by-depth (Hatch w o l))
 not-above (Void w d l) = omega (arith, area-by-depth (Void w d l))
 

@@ -14,8 +14,6 @@ add-u c = let s = c .before .before in let p1 = c .before .above-zero .ensures �
 add-n : tie.Need-add-n
 add-n c =
     let s = c .before .before .before .before in
-    let p1 = c .before .before .before .above-zero .ensures ∙ ap plus (toZ-ofZ (s .fits .d)) in
-    let p2 = c .before .before .above-zero2 .ensures ∙ ap plus (toZ-ofZ (s .fits .e)) in
     let m1 = c .before .below-zero .ensures ∙ ap minus (toZ-ofZ (s .fits .d)) in
     let m2 = c .below-zero2 .ensures ∙ ap minus (toZ-ofZ (s .fits .e)) in
     let d = s .pre .2 in

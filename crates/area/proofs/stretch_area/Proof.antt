@@ -11,7 +11,7 @@ use lib.IntN.{pos}
 use Rattle.arms.specs.Angles.{angle, width}
 use Rattle.area.specs.Walk.{partArea}
 use Rattle.arms.proofs.Tens.{angle-rises, width-some, width-le}
-use Rattle.area.proofs.Stretches.{width-between, end-bounds, nothing-counted, counted-none, counted-whole, counted-part, part-le}
+use Rattle.area.proofs.Stretches.{width-between, both-bounds, nothing-counted, counted-none, counted-whole, counted-part, part-le}
 use borrow.Author.Needs.{needs}
 use Rattle.area.proofs.stretch_area.Statement.{statement}
 use Rattle.area.proofs.stretch_area.Tie as tie
@@ -23,8 +23,6 @@ sub-full-area : tie.Need-sub-full-area
 sub-full-area c =
     let s = c .before .before .before .before .before .before in
     let k = s .args .k in
-    let u = s .args .upper in
-    let ds = s .args .t1 in
     let w = width-between k (c .before .before .before .before .before .angle-at .ensures) (c .before .before .before .angle-at2 .ensures) in
     omega (arith, angle-rises k (s .pre .1))
 
@@ -32,14 +30,12 @@ full-area-requires : tie.Need-full-area-requires
 full-area-requires c κs =
     let s = c .before .before .before .before .before .before in
     let k = s .args .k in
-    let u = s .args .upper in
     let ds = s .args .t1 in
     let w = width-between k (c .before .before .before .before .before .angle-at .ensures) (c .before .before .before .angle-at2 .ensures) in
     let x = toZ-ofZ {w = w64} {z = getD ds k (pos 0)} (sfits-of (c .before .before .d .given)) in
     let y = toZ-ofZ {w = w64} {z = getD ds (k + 1) (pos 0)} (sfits-of (c .before .e .given)) in
-    let bx = end-bounds ds k (s .pre .0) (omega (arith, s .pre .1)) in
-    let by = end-bounds ds (k + 1) (s .pre .0) (omega (arith, s .pre .1)) in
-    rw (x, y, w) (width-some k (s .pre .1), width-le k (s .pre .1), bx, by)
+    let ends = both-bounds ds k (s .pre .0) (s .pre .1) in
+    rw (x, y, w) (width-some k (s .pre .1), width-le k (s .pre .1), ends .0, ends .1)
 
 returns-2 : tie.Need-returns-2
 returns-2 c =
@@ -52,18 +48,15 @@ returns-2 c =
     let w = width-between k (angle-at .ensures) (c .before .before .before .before .angle-at2 .ensures) in
     let x = toZ-ofZ {w = w64} {z = getD ds k (pos 0)} (sfits-of (c .before .before .before .d .given)) in
     let y = toZ-ofZ {w = w64} {z = getD ds (k + 1) (pos 0)} (sfits-of (c .before .before .e .given)) in
-    let bx = end-bounds ds k (s .pre .0) (omega (arith, s .pre .1)) in
-    let by = end-bounds ds (k + 1) (s .pre .0) (omega (arith, s .pre .1)) in
+    let ends = both-bounds ds k (s .pre .0) (s .pre .1) in
     let h : angle (suc k) ≤ u = omega (arith, c .before .if2 .taken) in
     let e : c .full-area .result ≡ partArea (width k) (width k) (getD ds k (pos 0)) (getD ds (k + 1) (pos 0)) = c .full-area .ensures ∙ rw (x, y, w) refl in
-    (e ∙ rw (add-one k, counted-whole u k h) refl, omega (arith, part-le (width k) (width k) (getD ds k (pos 0)) (getD ds (k + 1) (pos 0)) (omega arith) (width-some k (s .pre .1)) (width-le k (s .pre .1)) bx by))
+    (e ∙ rw (add-one k, counted-whole u k h) refl, omega (arith, part-le (width k) (width k) (getD ds k (pos 0)) (getD ds (k + 1) (pos 0)) (omega arith) (width-some k (s .pre .1)) (width-le k (s .pre .1)) (ends .0) (ends .1)))
 
 sub-part-area : tie.Need-sub-part-area
 sub-part-area c =
     let s = c .before .before .before .before .before .before in
     let k = s .args .k in
-    let u = s .args .upper in
-    let ds = s .args .t1 in
     let w = width-between k (c .before .before .before .before .before .angle-at .ensures) (c .before .before .before .angle-at2 .ensures) in
     omega (arith, angle-rises k (s .pre .1))
 
@@ -71,14 +64,12 @@ part-area-requires : tie.Need-part-area-requires
 part-area-requires c κs =
     let s = c .before .before .before .before .before .before in
     let k = s .args .k in
-    let u = s .args .upper in
     let ds = s .args .t1 in
     let w = width-between k (c .before .before .before .before .before .angle-at .ensures) (c .before .before .before .angle-at2 .ensures) in
     let x = toZ-ofZ {w = w64} {z = getD ds k (pos 0)} (sfits-of (c .before .before .d .given)) in
     let y = toZ-ofZ {w = w64} {z = getD ds (k + 1) (pos 0)} (sfits-of (c .before .e .given)) in
-    let bx = end-bounds ds k (s .pre .0) (omega (arith, s .pre .1)) in
-    let by = end-bounds ds (k + 1) (s .pre .0) (omega (arith, s .pre .1)) in
-    rw (x, y) (omega arith, omega (arith, width-some k (s .pre .1)), omega (arith, width-le k (s .pre .1)), bx, by)
+    let ends = both-bounds ds k (s .pre .0) (s .pre .1) in
+    rw (x, y) (omega arith, omega (arith, width-some k (s .pre .1)), omega (arith, width-le k (s .pre .1)), ends .0, ends .1)
 
 returns-3 : tie.Need-returns-3
 returns-3 c =
@@ -92,12 +83,11 @@ returns-3 c =
     let w = width-between k (angle-at .ensures) (c .before .before .before .before .angle-at2 .ensures) in
     let x = toZ-ofZ {w = w64} {z = getD ds k (pos 0)} (sfits-of (c .before .before .before .d .given)) in
     let y = toZ-ofZ {w = w64} {z = getD ds (k + 1) (pos 0)} (sfits-of (c .before .before .e .given)) in
-    let bx = end-bounds ds k (s .pre .0) (omega (arith, s .pre .1)) in
-    let by = end-bounds ds (k + 1) (s .pre .0) (omega (arith, s .pre .1)) in
+    let ends = both-bounds ds k (s .pre .0) (s .pre .1) in
     let h : u < angle (suc k) = omega (arith, c .before .if2 .left) in
     let v : u - angle-at .result ≡ u - angle k = ap (λ n. u - n) a in
     let e : c .part-area .result ≡ partArea (width k) (u - angle k) (getD ds k (pos 0)) (getD ds (k + 1) (pos 0)) = c .part-area .ensures ∙ rw (x, y, w, v) refl in
-    (e ∙ rw (add-one k, counted-part u k h) refl, omega (arith, part-le (width k) (u - angle k) (getD ds k (pos 0)) (getD ds (k + 1) (pos 0)) (omega arith) (width-some k (s .pre .1)) (width-le k (s .pre .1)) bx by))
+    (e ∙ rw (add-one k, counted-part u k h) refl, omega (arith, part-le (width k) (u - angle k) (getD ds k (pos 0)) (getD ds (k + 1) (pos 0)) (omega arith) (width-some k (s .pre .1)) (width-le k (s .pre .1)) (ends .0) (ends .1)))
 
 pub stretch-area-spec : {M : Type 1} → statement M
 stretch-area-spec =

@@ -27,23 +27,15 @@ mul-divide-up : tie.Need-mul-divide-up
 mul-divide-up c =
     let reach-of = c .before .before .before .before .before .before .reach-of in
     let s = c .before .before .before .before .before .before .before .before .before in
-    let j = s .pre .0 in
-    let q = s .args .b in
-    let k = s .args .k in
-    let r = reach-of .ensures in
-    let si : c .before .sine-at .result ≤ 642788 = omega (arith, c .before .sine-at .ensures, sine-le k (s .pre .1)) in
-    omega (arith, mul-le-mul (r .low) si)
+    let si : c .before .sine-at .result ≤ 642788 = omega (arith, c .before .sine-at .ensures, sine-le (s .args .k) (s .pre .1)) in
+    omega (arith, mul-le-mul (reach-of .ensures .low) si)
 
 divide-up-requires : tie.Need-divide-up-requires
 divide-up-requires c κs =
     let reach-of = c .before .before .before .before .before .before .reach-of in
     let s = c .before .before .before .before .before .before .before .before .before in
-    let j = s .pre .0 in
-    let q = s .args .b in
-    let k = s .args .k in
-    let r = reach-of .ensures in
-    let si : c .before .sine-at .result ≤ 642788 = omega (arith, c .before .sine-at .ensures, sine-le k (s .pre .1)) in
-    omega (arith, mul-le-mul (r .low) si)
+    let si : c .before .sine-at .result ≤ 642788 = omega (arith, c .before .sine-at .ensures, sine-le (s .args .k) (s .pre .1)) in
+    omega (arith, mul-le-mul (reach-of .ensures .low) si)
 
 difference-requires : tie.Need-difference-requires
 unfolding knArm kgArm
