@@ -7,7 +7,7 @@ use Rattle.line_codes.specs.declared.Reading.{Reading}
 use Rattle.line_codes.specs.declared.Reading.the-variants.{Sound, TooLong, BadByte, NotOneForm, BadNumber}
 use Rattle.text.specs.Token.{startsRun}
 use Rattle.line_codes.specs.Line.{readingOf}
-use Rattle.line_codes.proofs.Words.{ends}
+use Rattle.text.proofs.Parts.{ends}
 use Rattle.line_codes.proofs.Spaces.{tokens-free, reading-free, not-inside}
 use Rattle.condition.specs.declared.Condition.{Condition}
 use Rattle.panel.specs.Step.{outcomeAfter, stepOf}

@@ -10,7 +10,8 @@ use Rattle.whole.specs.Lists.{within, all}
 use Rattle.text.specs.Token.{allowed, Token, inRun, startsRun, glue, tokens}
 use Rattle.line_codes.specs.Line.{Stand, before, inside, behind, wrong, further, walked, deepest, readingOf}
 use Rattle.line_codes.specs.Codes.{LetterOrDigit}
-use Rattle.line_codes.proofs.Words.{of-run, ends}
+use Rattle.text.proofs.Parts.{ends}
+use Rattle.line_codes.proofs.Words.{of-run}
 
 apart : (r t : Bool) (x : ℕ) (ts u : List Token) → (r && t) ≡ false → cond r (glue false x ts) u ≡ cond r (glue t x ts) u
 apart false t x ts u e = refl

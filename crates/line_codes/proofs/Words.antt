@@ -15,6 +15,7 @@ use Rattle.line_codes.specs.Line.{numberIfDigit, soundToken}
 use Rattle.text.specs.Token.{prefix, runLength}
 use Rattle.line_codes.specs.Codes.{LetterOrDigit, letter, digit, NumberIs, Run, NoNumber}
 use Rattle.text.proofs.Runs.{run-token}
+use Rattle.text.proofs.Parts.{ends, tokens-append}
 use Rattle.line_codes.proofs.Sounds.{sound, one-other, sound-front}
 use Rattle.text.proofs.Scans.{prefix-on, prefix-le, prefix-all}
 use Rattle.line_codes.proofs.Decimals.{decimal-number, number-decimal}
@@ -38,37 +39,6 @@ of-run b e = by (isLetter b) refl e
 no-run : (b : ℕ) → inRun b ≡ false → LetterOrDigit b → ⊥
 no-run b e l =
     let z : _≡_ {A = ℕ} 0 1 = cc (in-run l) in omega arith
-
--- ---- the tokens of two pieces that no run joins
-unfoldable pub ends : List ℕ → Bool
-ends [] = false
-ends (x ∷ []) = inRun x
-ends (x ∷ y ∷ s) = ends (y ∷ s)
-
-glue-append : (x : ℕ) (y : Bool) (s : List ℕ) (ts : List Token) → startsRun s ≡ y → glue y x (tokens s ++ ts) ≡ glue y x (tokens s) ++ ts
-glue-append x false s ts e = refl
-glue-append x true s ts e = rw (run-token s e)
-
-tokens-append : (a b : List ℕ) → (ends a && startsRun b) ≡ false → tokens (a ++ b) ≡ tokens a ++ tokens b
-unfolding tokens ends
-tokens-append [] b e = refl
-tokens-append (x ∷ []) b e = by (inRun x) (eqb x 40) (eqb x 41) (startsRun b) e
-  where
-    by : (p o c q : Bool) → (p && q) ≡ false → cond p (glue q x (tokens b)) (cond o (opened ∷ tokens b) (cond c (closed ∷ tokens b) (tokens b))) ≡ cond p (glue false x []) (cond o (opened ∷ []) (cond c (closed ∷ []) [])) ++ tokens b
-    by true o c true e = let z : _≡_ {A = ℕ} 0 1 = cc in absurd (omega arith)
-    by true o c false e = refl
-    by false true c q e = refl
-    by false false true q e = refl
-    by false false false q e = refl
-tokens-append (x ∷ y ∷ s) b e = rw (tokens-append (y ∷ s) b e) (by (inRun x) (eqb x 40) (eqb x 41))
-  where
-    by : (p o c : Bool) →
-        cond p (glue (inRun y) x (tokens (y ∷ s) ++ tokens b)) (cond o (opened ∷ (tokens (y ∷ s) ++ tokens b)) (cond c (closed ∷ (tokens (y ∷ s) ++ tokens b)) (tokens (y ∷ s) ++ tokens b)))
-        ≡ cond p (glue (inRun y) x (tokens (y ∷ s))) (cond o (opened ∷ tokens (y ∷ s)) (cond c (closed ∷ tokens (y ∷ s)) (tokens (y ∷ s)))) ++ tokens b
-    by true o c = glue-append x (inRun y) (y ∷ s) (tokens b) refl
-    by false true c = refl
-    by false false true = refl
-    by false false false = refl
 
 -- ---- the run in front of a list
 run-stop : (l : List ℕ) → startsRun (drop (runLength l) l) ≡ false

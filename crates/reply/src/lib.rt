@@ -47,7 +47,7 @@ fn put_decimal(out: &mut [u8], n: u64) -> usize
 }
 
 // A text behind the `at` bytes that are written already: it gets the part of the buffer that starts there.
-fn append(out: &mut [u8], at: usize, w: &[u8]) -> usize
+pub fn append(out: &mut [u8], at: usize, w: &[u8]) -> usize
     requires { ⌜ at + length (now w) ≤ length (now out) ⌝ }
     ensures { λ r. ⌜ r ≡ at + length (now (w .entry)) ⌝ }
     ensures { λ r. ⌜ now (out .exit) ≡ into at (now (w .entry)) (now (out .entry)) ⌝ }

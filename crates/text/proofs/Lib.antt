@@ -1,3 +1,4 @@
 pub mod Scans
 pub mod Numbers
 pub mod Runs
+pub mod Parts
