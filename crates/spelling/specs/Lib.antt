@@ -1,0 +1,4 @@
+pub mod Spelling
+pub mod SoSpelled
+pub mod Walk
+pub mod Laws

@@ -1,0 +1,1 @@
+// The one spelling of a line.
