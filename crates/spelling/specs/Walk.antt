@@ -5,7 +5,11 @@ use Prim.Native.Nat.{ℕ}
 use Rattle.text.specs.Token.{Token}
 use Rattle.spelling.specs.Spelling.{endsItem, beginsItem, written, spaceIf}
 
--- the spelling of these tokens behind one that ended an item or not
+-- a token behind one that ended an item or not: its own bytes, and in front of them the space that parts it
+abbrev pub piece : (ended : Bool) → Token → List ℕ
+piece ended t = spaceIf (beginsItem t && ended) ++ written t
+
+-- the spelling of these tokens behind such a one
 unfoldable pub spelledAfter : (ended : Bool) → List Token → List ℕ
 spelledAfter ended [] = []
-spelledAfter ended (t ∷ ts) = (spaceIf (ended && beginsItem t) ++ written t) ++ spelledAfter (endsItem t) ts
+spelledAfter ended (t ∷ ts) = piece ended t ++ spelledAfter (endsItem t) ts
