@@ -1,55 +1,40 @@
 -- The codes 10 to 13 are given where the paper's words say so.
 use mathlib.Core.Path.{_≡_, refl, sym, _∙_}
-use mathlib.Core.Bool.{Bool, true, false, cond, not, _&&_, _||_}
-use mathlib.Core.List.{List, [], _∷_}
-use Prim.Native.Nat.{ℕ, suc}
+use mathlib.Core.Bool.{Bool, true, false, cond, not}
+use mathlib.Core.List.{List}
+use Prim.Native.Nat.{ℕ, _≤_}
 use native.Mathlib.Omega.{arith}
-use lib.Dec.{eqb, ltb}
-use lib.ListN.{length, getD}
-use borrow.Author.Tests.{eqb-true, ltb-true, ltb-false}
-use Rattle.whole.specs.Lists.{within, all}
-use Rattle.whole.proofs.Lists.{all-at}
+use lib.Dec.{ltb}
+use lib.ListN.{length}
+use borrow.Author.Tests.{ltb-true, ltb-false}
+use Rattle.whole.specs.Lists.{all}
 use Rattle.line_codes.specs.declared.Reading.{Reading}
 use Rattle.line_codes.specs.declared.Reading.the-variants.{Sound, TooLong, BadByte, NotOneForm, BadNumber}
-use Rattle.text.specs.Token.{allowed, inRun}
-use Rattle.line_codes.specs.Line.{deepest, oneForm, readingOf, readingCode}
-use Rattle.line_codes.specs.Codes.{Allowed, opening, closing, space, ofRun, AllAllowed, OtherByte, OneForm, NoNumber, LineCode}
+use Rattle.text.specs.Token.{allowed, tokens}
+use Rattle.line_codes.specs.Line.{isShow, deepest, oneForm, readingOf, readingCode}
+use Rattle.line_codes.specs.Codes.{Nested, four, five, NoNumber, LineCode}
+use Rattle.line_codes.proofs.Bytes.{other-byte, all-allowed}
 use Rattle.line_codes.proofs.Sounds.{sound}
 use Rattle.line_codes.proofs.Forms.{form-passes, form-found}
-use Rattle.line_codes.proofs.Words.{in-run, of-run, bad-found, no-number-fails}
+use Rattle.line_codes.proofs.Shows.{shows, begins}
+use Rattle.line_codes.proofs.Words.{bad-found, no-number-fails}
 
--- ---- 11: the bytes that a line may have
-one-of : (a b c d : Bool) (P : Type 0) → (a ≡ true → P) → (b ≡ true → P) → (c ≡ true → P) → (d ≡ true → P) → (a || b || c || d) ≡ true → P
-one-of true b c d P f g h k e = f refl
-one-of false true c d P f g h k e = g refl
-one-of false false true d P f g h k e = h refl
-one-of false false false true P f g h k e = k refl
-one-of false false false false P f g h k e =
-    let z : _≡_ {A = ℕ} 0 1 = cc in absurd (omega arith)
+-- ---- 12: one form, as deep as its line may be
+four-within : (x : Bool) → 4 ≤ cond x 5 4
+four-within true = omega arith
+four-within false = omega arith
 
-may-stand : (b : ℕ) → allowed b ≡ true → Allowed b
-may-stand b e =
-    one-of (inRun b) (eqb b 32) (eqb b 40) (eqb b 41) (Allowed b) (λ p. ofRun (of-run b p)) (λ p. space (eqb-true b 32 p)) (λ p. opening (eqb-true b 40 p)) (λ p. closing (eqb-true b 41 p)) e
+module _ (s : List ℕ) where
+  nested-passes : Nested s → oneForm (deepest (tokens s)) s ≡ true
+  nested-passes (four f) = form-passes 4 (deepest (tokens s)) s (four-within (isShow (tokens s))) f
+  nested-passes (five b f) = rw (shows s b) (form-passes 5 5 s (omega arith) f)
 
-passes : (b : ℕ) → Allowed b → allowed b ≡ true
-unfolding within
-passes b (opening e) = rw e
-passes b (closing e) = rw e
-passes b (space e) = rw e
-passes b (ofRun r) = rw (in-run r)
-
-other-byte : (s : List ℕ) → all allowed s ≡ false → OtherByte s
-unfolding all
-other-byte [] e =
-    let z : _≡_ {A = ℕ} 0 1 = cc in absurd (omega arith)
-other-byte (b ∷ s) e = by (allowed b) refl e (other-byte s)
-  where
-    by : (x : Bool) → allowed b ≡ x → (x && all allowed s) ≡ false → (all allowed s ≡ false → OtherByte s) → OtherByte (b ∷ s)
-    by true p w more = let o = more w in (suc (o .0), omega (arith, o .1), o .2)
-    by false p w more = (0, omega arith, λ a. let y = passes b a in let z : _≡_ {A = ℕ} 0 1 = cc in omega arith)
-
-all-allowed : (s : List ℕ) → all allowed s ≡ true → AllAllowed s
-all-allowed s e i h = may-stand (getD s i 0) (all-at allowed s i 0 e h)
+  nested-found : all allowed s ≡ true → oneForm (deepest (tokens s)) s ≡ true → Nested s
+  nested-found a e = by (isShow (tokens s)) refl e
+    where
+      by : (x : Bool) → isShow (tokens s) ≡ x → oneForm (cond x 5 4) s ≡ true → Nested s
+      by true p w = five (begins s a p) (form-found 4 s w)
+      by false p w = four (form-found 3 s w)
 
 -- ---- the four tests in their order
 clash : {P : Type 0} → true ≡ false → P
@@ -63,7 +48,7 @@ module _ (s : List ℕ) where
   abbrev Codes : Reading → Type 0
   Codes r = LineCode s (readingCode r)
 
-  by-tests : (l b f n : Bool) → ltb 2000 (length s) ≡ l → all allowed s ≡ b → oneForm deepest s ≡ f → sound s ≡ n → Codes (firstOf l b f n)
+  by-tests : (l b f n : Bool) → ltb 2000 (length s) ≡ l → all allowed s ≡ b → oneForm (deepest (tokens s)) s ≡ f → sound s ≡ n → Codes (firstOf l b f n)
   by-tests true b f n el eb ef en =
       let h = ltb-true 2000 (length s) el in
       record {
@@ -86,7 +71,7 @@ module _ (s : List ℕ) where
   by-tests false true false n el eb ef en =
       let h = ltb-false 2000 (length s) el in
       let a = all-allowed s eb in
-      let no : OneForm 4 s → ⊥ = λ f. clash (sym (form-passes 4 s f) ∙ ef) in
+      let no : Nested s → ⊥ = λ f. clash (sym (nested-passes s f) ∙ ef) in
       record {
         ten = (λ e. absurd (omega arith), λ k. absurd (omega arith));
         eleven = (λ e. absurd (omega arith), λ k. absurd (k .1 .2 (a (k .1 .0) (k .1 .1))));
@@ -97,7 +82,7 @@ module _ (s : List ℕ) where
   by-tests false true true false el eb ef en =
       let h = ltb-false 2000 (length s) el in
       let a = all-allowed s eb in
-      let f = form-found 3 s ef in
+      let f = nested-found s eb ef in
       record {
         ten = (λ e. absurd (omega arith), λ k. absurd (omega arith));
         eleven = (λ e. absurd (omega arith), λ k. absurd (k .1 .2 (a (k .1 .0) (k .1 .1))));
@@ -108,7 +93,7 @@ module _ (s : List ℕ) where
   by-tests false true true true el eb ef en =
       let h = ltb-false 2000 (length s) el in
       let a = all-allowed s eb in
-      let f = form-found 3 s ef in
+      let f = nested-found s eb ef in
       let good : NoNumber s → ⊥ = λ n. clash (sym en ∙ no-number-fails s n) in
       record {
         ten = (λ e. absurd (omega arith), λ k. absurd (omega arith));
@@ -120,4 +105,4 @@ module _ (s : List ℕ) where
 
 pub line-code : (s : List ℕ) → LineCode s (readingCode (readingOf s))
 unfolding readingOf
-line-code s = by-tests s (ltb 2000 (length s)) (all allowed s) (oneForm deepest s) (sound s) refl refl refl refl
+line-code s = by-tests s (ltb 2000 (length s)) (all allowed s) (oneForm (deepest (tokens s)) s) (sound s) refl refl refl refl

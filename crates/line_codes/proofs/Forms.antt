@@ -47,16 +47,17 @@ unfolding walked
 spaces-behind most zero = refl
 spaces-behind most (suc n) = spaces-behind most n
 
-form-walks : (most : ℕ) (f l : List ℕ) → Form most f → walked most before (f ++ l) ≡ walked most behind l
+form-walks : (n most : ℕ) (f l : List ℕ) → n ≤ most → Form n f → walked most before (f ++ l) ≡ walked most behind l
 unfolding walked
-form-walks most f l (form {n = n} {f = g} r) =
-    ap (walked (suc n) (inside 1)) (append-assoc g (41 ∷ []) l)
-    ∙ over-inner r (suc n) 0 (41 ∷ l) (omega arith)
-    ∙ step-shut (suc n) 0 l
+form-walks n most f l h (form {f = g} r) =
+    ap (walked most (inside 1)) (append-assoc g (41 ∷ []) l)
+    ∙ over-inner r most 0 (41 ∷ l) (omega arith)
+    ∙ step-shut most 0 l
 
-pub form-passes : (most : ℕ) (s : List ℕ) → OneForm most s → oneForm most s ≡ true
-form-passes most s f =
-    rw (f .line, spaces-before most (f .before) (f .written ++ replicate (f .behind) 32), form-walks most (f .written) (replicate (f .behind) 32) (f .is), spaces-behind most (f .behind))
+-- a form passes where as many brackets as it needs may be open, or more
+pub form-passes : (n most : ℕ) (s : List ℕ) → n ≤ most → OneForm n s → oneForm most s ≡ true
+form-passes n most s h f =
+    rw (f .line, spaces-before most (f .before) (f .written ++ replicate (f .behind) 32), form-walks n most (f .written) (replicate (f .behind) 32) h (f .is), spaces-behind most (f .behind))
 
 -- ---- what a walk that ends behind the form has before it, with k brackets open and d more allowed
 record Spaces (s : List ℕ) : Type 0 where

@@ -1,9 +1,11 @@
+pub mod Bytes
 pub mod Sounds
 pub mod Walks
 pub mod Closing
 pub mod Forms
 pub mod Decimals
 pub mod Words
+pub mod Shows
 pub mod Order
 pub mod Codes
 pub mod Spaces

@@ -36,11 +36,11 @@ module _ (s : List ℕ) where
     bad-byte a = rw (le-ltb 2000 (length s) p, a)
 
     module _ (a : all allowed s ≡ true) where
-      pub not-one-form : oneForm deepest s ≡ false → readingOf s ≡ NotOneForm
+      pub not-one-form : oneForm (deepest (tokens s)) s ≡ false → readingOf s ≡ NotOneForm
       unfolding readingOf
       not-one-form b = rw (le-ltb 2000 (length s) p, a, b)
 
-      module _ (b : oneForm deepest s ≡ true) where
+      module _ (b : oneForm (deepest (tokens s)) s ≡ true) where
         pub bad-number : all soundToken (tokens s) ≡ false → readingOf s ≡ BadNumber
         unfolding readingOf
         bad-number d = rw (le-ltb 2000 (length s) p, a, b, d)

@@ -11,7 +11,7 @@ use Rattle.text.specs.Token.{allowed, Token, inRun, startsRun, glue, tokens}
 use Rattle.line_codes.specs.Line.{Stand, before, inside, behind, wrong, further, walked, deepest, readingOf}
 use Rattle.line_codes.specs.Codes.{LetterOrDigit}
 use Rattle.text.proofs.Parts.{ends}
-use Rattle.line_codes.proofs.Words.{of-run}
+use Rattle.line_codes.proofs.Bytes.{of-run}
 
 apart : (r t : Bool) (x : ℕ) (ts u : List Token) → (r && t) ≡ false → cond r (glue false x ts) u ≡ cond r (glue t x ts) u
 apart false t x ts u e = refl
@@ -46,7 +46,7 @@ unfolding readingOf
 reading-free a b e h =
     let k : length (a ++ 32 ∷ b) ≤ 2000 = omega (arith, longer-free a b) in
     let l : length (a ++ b) ≤ 2000 = omega arith in
-    rw (le-ltb 2000 (length (a ++ 32 ∷ b)) k, le-ltb 2000 (length (a ++ b)) l, allowed-free a b, walked-free deepest before a b, tokens-free a b e) refl
+    rw (le-ltb 2000 (length (a ++ 32 ∷ b)) k, le-ltb 2000 (length (a ++ b)) l, allowed-free a b, tokens-free a b e, walked-free (deepest (tokens (a ++ b))) before a b) refl
 
 -- ---- not both a ends and b begins with a letter or digit
 ends-some : (a : List ℕ) → ends a ≡ true → (0 < length a) × LetterOrDigit (getD a (length a - 1) 0)

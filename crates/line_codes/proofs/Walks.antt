@@ -8,13 +8,14 @@ use lib.Dec.{eqb, ltb}
 use lib.ListN.{length, getD, drop}
 use borrow.Author.Tests.{ne-eqb, eqb-true, lt-ltb, le-ltb}
 use lib.Seq.{drop-drop}
-use Rattle.text.specs.Token.{space}
-use Rattle.line_codes.specs.Line.{before, inside, behind, wrong, outOf, walked, isBehind, oneForm}
+use Rattle.text.specs.Token.{space, opened, tokens}
+use Rattle.line_codes.specs.Line.{before, inside, behind, wrong, outOf, walked, isBehind, oneForm, firstIsShow, deepest}
 use Rattle.text.specs.Places.{spaces}
 use Rattle.line_codes.specs.Places.{closeAt}
 use Rattle.line_codes.specs.declared.Closed.{Closed}
 use Rattle.line_codes.specs.declared.Closed.the-variants.{At, Nowhere}
 use Rattle.whole.proofs.Lists.{drop-next, drop-end}
+use Rattle.text.proofs.Parts.{tokens-opening, tokens-space}
 use Rattle.text.proofs.Scans.{scan-over, scan-stop}
 
 -- a walk that went wrong stays wrong
@@ -95,6 +96,11 @@ neither : (most b : ℕ) (s : List ℕ) → eqb b space ≡ false → (b ≡ 40 
 unfolding walked
 neither most b s e q = rw (e, ne-eqb b 40 q, walked-wrong most s)
 
+-- one more with the outermost brackets
+with-outer : (x : Bool) → cond x 5 4 ≡ cond x 4 3 + 1
+with-outer true = refl
+with-outer false = refl
+
 -- a line: its spaces, its opening bracket, its form, and spaces to its end
 module _ (s : List ℕ) (i : ℕ) (there : i ≡ 0 + spaces (drop 0 s)) where
   from-there : (most : ℕ) → oneForm most s ≡ isBehind (walked most before (drop i s))
@@ -108,6 +114,17 @@ module _ (s : List ℕ) (i : ℕ) (there : i ≡ 0 + spaces (drop 0 s)) where
     pub not-opened : (most : ℕ) → (getD s i 0 ≡ 40 → ⊥) → oneForm most s ≡ false
     not-opened most a = from-there most ∙ rw (drop-next s i 0 p) (neither most (getD s i 0) (drop (i + 1) s) (scan-stop (λ b. eqb b space) s 0 i there p) a)
 
-    pub form-from : (left : ℕ) → getD s i 0 ≡ 40 → oneForm (left + 1) s ≡ afterClose (left + 1) s (closeAt (drop (i + 1) s) (i + 1) left 0)
-    unfolding walked
-    form-from left a = from-there (left + 1) ∙ rw (drop-next s i 0 p, a) (walk-close s (left + 1) (drop (i + 1) s) (i + 1) left 0 refl refl)
+    module _ (a : getD s i 0 ≡ 40) where
+      tokens-there : tokens s ≡ opened ∷ tokens (drop (i + 1) s)
+      tokens-there =
+          scan-over (λ b. eqb b space) s 0 i there tokens (λ b t e. rw (eqb-true b space e) (tokens-space t))
+          ∙ rw (drop-next s i 0 p, a) (tokens-opening (drop (i + 1) s))
+
+      form-from : (left : ℕ) → oneForm (left + 1) s ≡ afterClose (left + 1) s (closeAt (drop (i + 1) s) (i + 1) left 0)
+      unfolding walked
+      form-from left = from-there (left + 1) ∙ rw (drop-next s i 0 p, a) (walk-close s (left + 1) (drop (i + 1) s) (i + 1) left 0 refl refl)
+
+      pub form-by : (left : ℕ) → left ≡ cond (firstIsShow (tokens (drop (i + 1) s))) 4 3 → oneForm (deepest (tokens s)) s ≡ afterClose (left + 1) s (closeAt (drop (i + 1) s) (i + 1) left 0)
+      form-by left e =
+          let d : deepest (tokens s) ≡ left + 1 = rw (tokens-there, e) (with-outer (firstIsShow (tokens (drop (i + 1) s)))) in
+          ap (λ m. oneForm m s) d ∙ form-from left

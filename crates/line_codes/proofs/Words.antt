@@ -5,43 +5,23 @@ use mathlib.Core.List.{List, [], _∷_, _++_, append-assoc, append-nil}
 use Prim.Native.Nat.{ℕ, zero, suc, _+_, _-_, _≤_, _<_}
 use native.Mathlib.Decide.{decLt}
 use native.Mathlib.Omega.{arith}
-use lib.Dec.{eqb}
 use lib.ListN.{length, getD, take, drop, length-append, length-drop, take-append-drop, List·getD-append}
 use lib.Seq.{getD-append-add, length-take-le, take-length, drop-length}
 use Rattle.whole.specs.Lists.{all}
 use Rattle.whole.proofs.Lists.{and-false, within-true, within-by, all-append, all-at}
-use Rattle.text.specs.Token.{Token, opened, closed, run, isLetter, isDigit, inRun, startsRun, glue, tokens, isNumber}
+use Rattle.text.specs.Token.{run, isDigit, inRun, startsRun, tokens, isNumber}
 use Rattle.line_codes.specs.Line.{numberIfDigit, soundToken}
 use Rattle.text.specs.Token.{prefix, runLength}
-use Rattle.line_codes.specs.Codes.{LetterOrDigit, letter, digit, NumberIs, Run, NoNumber}
+use Rattle.line_codes.specs.Codes.{LetterOrDigit, NumberIs, Run, NoNumber}
 use Rattle.text.proofs.Runs.{run-token}
 use Rattle.text.proofs.Parts.{ends, tokens-append}
+use Rattle.line_codes.proofs.Bytes.{in-run, of-run, no-run}
 use Rattle.line_codes.proofs.Sounds.{sound, one-other, sound-front}
 use Rattle.text.proofs.Scans.{prefix-on, prefix-le, prefix-all}
 use Rattle.line_codes.proofs.Decimals.{decimal-number, number-decimal}
 
--- ---- letters and digits
-or-right : (x : Bool) → (x || true) ≡ true
-or-right true = refl
-or-right false = refl
-
-pub in-run : {b : ℕ} → LetterOrDigit b → inRun b ≡ true
-in-run {b} (letter p q) = rw (within-by 97 122 b p q)
-in-run {b} (digit p q) = rw (within-by 48 57 b p q) (or-right (isLetter b))
-
-pub of-run : (b : ℕ) → inRun b ≡ true → LetterOrDigit b
-of-run b e = by (isLetter b) refl e
-  where
-    by : (x : Bool) → isLetter b ≡ x → (x || isDigit b) ≡ true → LetterOrDigit b
-    by true p w = let t = within-true 97 122 b p in letter (t .low) (t .high)
-    by false p w = let t = within-true 48 57 b w in digit (t .low) (t .high)
-
-no-run : (b : ℕ) → inRun b ≡ false → LetterOrDigit b → ⊥
-no-run b e l =
-    let z : _≡_ {A = ℕ} 0 1 = cc (in-run l) in omega arith
-
 -- ---- the run in front of a list
-run-stop : (l : List ℕ) → startsRun (drop (runLength l) l) ≡ false
+pub run-stop : (l : List ℕ) → startsRun (drop (runLength l) l) ≡ false
 unfolding prefix
 run-stop [] = refl
 run-stop (b ∷ s) = by (inRun b) refl (run-stop s)
@@ -55,7 +35,7 @@ unfolding prefix
 run-whole [] f = refl
 run-whole (b ∷ s) f = rw (in-run (f 0 (omega arith))) (ap suc (run-whole s (λ i h. f (suc i) (omega arith))))
 
-stops : (l : List ℕ) → startsRun l ≡ false → 0 < length l → LetterOrDigit (getD l 0 0) → ⊥
+pub stops : (l : List ℕ) → startsRun l ≡ false → 0 < length l → LetterOrDigit (getD l 0 0) → ⊥
 stops [] e h w = omega arith
 stops (b ∷ s) e h w = no-run b e w
 
@@ -187,7 +167,7 @@ ends-none (x ∷ y ∷ s) f =
     let i : length (x ∷ y ∷ s) - 1 ≡ suc (length (y ∷ s) - 1) = omega arith in
     ends-none (y ∷ s) (λ h w. f (omega arith) (rw i w))
 
-starts-none : (a : List ℕ) → (0 < length a → LetterOrDigit (getD a 0 0) → ⊥) → startsRun a ≡ false
+pub starts-none : (a : List ℕ) → (0 < length a → LetterOrDigit (getD a 0 0) → ⊥) → startsRun a ≡ false
 starts-none [] f = refl
 starts-none (x ∷ s) f = by (inRun x) refl
   where

@@ -36,13 +36,27 @@ pub data Inner : ℕ → List ℕ → Type 0 where
 pub data Form : ℕ → List ℕ → Type 0 where
   form : {n : ℕ} {f : List ℕ} → Inner n f → Form (suc n) (40 ∷ (f ++ 41 ∷ []))
 
--- a line that is exactly one closed form, nested at most n deep, with nothing but spaces outside it; 12 where it is not, with n = 4
+-- a line that is exactly one closed form, nested at most n deep, with nothing but spaces outside it
 pub record OneForm (n : ℕ) (s : List ℕ) : Type 0 where
   pub before : ℕ
   pub written : List ℕ
   pub behind : ℕ
   pub is : Form n written
   pub line : s ≡ replicate before 32 ++ (written ++ replicate behind 32)
+
+-- the outer form's first item is the run `show`: spaces, an opening bracket, spaces, these four letters, and no letter or digit at once
+-- behind them
+pub record BeginsWithShow (s : List ℕ) : Type 0 where
+  pub before : ℕ
+  pub inside : ℕ
+  pub behind : List ℕ
+  pub line : s ≡ replicate before 32 ++ (40 ∷ (replicate inside 32 ++ (115 ∷ 104 ∷ 111 ∷ 119 ∷ behind)))
+  pub ends : 0 < length behind → LetterOrDigit (getD behind 0 0) → ⊥
+
+-- one closed form, as deep as its line may be: five where the outer form begins with the word `show`, four in any other; 12 where not
+pub data Nested (s : List ℕ) : Type 0 where
+  four : OneForm 4 s → Nested s
+  five : BeginsWithShow s → OneForm 5 s → Nested s
 
 -- a number of a line, from 0 to 999,999,999: its decimal digits, without needless leading zeros
 abbrev pub NumberIs : ℕ → List ℕ → Type 0
@@ -70,6 +84,6 @@ pub record NoNumber (s : List ℕ) : Type 0 where
 pub record LineCode (s : List ℕ) (code : ℕ) : Type 0 where
   pub ten : (code ≡ 10) ↔ (2000 < length s)
   pub eleven : (code ≡ 11) ↔ ((length s ≤ 2000) × OtherByte s)
-  pub twelve : (code ≡ 12) ↔ ((length s ≤ 2000) × AllAllowed s × (OneForm 4 s → ⊥))
-  pub thirteen : (code ≡ 13) ↔ ((length s ≤ 2000) × AllAllowed s × OneForm 4 s × NoNumber s)
-  pub sound : (code ≡ 0) ↔ ((length s ≤ 2000) × AllAllowed s × OneForm 4 s × (NoNumber s → ⊥))
+  pub twelve : (code ≡ 12) ↔ ((length s ≤ 2000) × AllAllowed s × (Nested s → ⊥))
+  pub thirteen : (code ≡ 13) ↔ ((length s ≤ 2000) × AllAllowed s × Nested s × NoNumber s)
+  pub sound : (code ≡ 0) ↔ ((length s ≤ 2000) × AllAllowed s × Nested s × (NoNumber s → ⊥))

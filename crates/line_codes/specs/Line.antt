@@ -4,12 +4,13 @@ use mathlib.Core.List.{List, [], _∷_}
 use Prim.Native.Nat.{ℕ, zero, suc, _-_}
 use lib.Dec.{eqb, ltb}
 use lib.ListN.{length}
+use Rattle.whole.specs.Bytes.{bytes}
 use Rattle.whole.specs.Lists.{all}
 use Rattle.line_codes.specs.declared.Reading.{Reading}
 use Rattle.line_codes.specs.declared.Reading.the-variants.{Sound, TooLong, BadByte, NotOneForm, BadNumber}
 use Rattle.line_codes.specs.declared.Test.{Test}
 use Rattle.line_codes.specs.declared.Test.the-variants.{Passed, Failed}
-use Rattle.text.specs.Token.{space, opening, closing, isDigit, allowed, Token, opened, closed, run, tokens, isNumber}
+use Rattle.text.specs.Token.{space, opening, closing, isDigit, allowed, Token, opened, closed, run, tokens, same, isNumber}
 
 -- how a test of a whole line ends
 abbrev pub tested : Bool → Test
@@ -66,16 +67,30 @@ soundToken (run r) = numberIfDigit r
 abbrev pub longest : ℕ
 longest = 2000
 
--- how deep a form may be nested
-abbrev pub deepest : ℕ
-deepest = 4
+-- the first of the tokens behind a form's opening bracket is the run `show`
+abbrev pub firstIsShow : List Token → Bool
+firstIsShow [] = false
+firstIsShow (opened ∷ ts) = false
+firstIsShow (closed ∷ ts) = false
+firstIsShow (run r ∷ ts) = same r (bytes "show")
+
+-- a line whose outer form begins with the word `show`
+abbrev pub isShow : List Token → Bool
+isShow [] = false
+isShow (opened ∷ ts) = firstIsShow ts
+isShow (closed ∷ ts) = false
+isShow (run r ∷ ts) = false
+
+-- how deep a form may be nested: five in such a line, four in any other
+abbrev pub deepest : List Token → ℕ
+deepest ts = cond (isShow ts) 5 4
 
 -- the first test that a line fails
 unfoldable pub readingOf : List ℕ → Reading
 readingOf s =
     cond (ltb longest (length s)) TooLong
     (cond (not (all allowed s)) BadByte
-    (cond (not (oneForm deepest s)) NotOneForm
+    (cond (not (oneForm (deepest (tokens s)) s)) NotOneForm
     (cond (not (all soundToken (tokens s))) BadNumber Sound)))
 
 -- the code of each

@@ -1,21 +1,25 @@
 // The tests of a whole line: codes 10 to 13.
 use text::BRACKET;
+use text::Next;
 use text::Number;
 use text::OTHER;
 use text::RUN;
 use text::SPACE;
 ghost use mathlib.Core.Path.{_≡_};
+ghost use mathlib.Core.Bool.{cond};
 ghost use Prim.Native.Nat.{_≤_};
 ghost use lib.ListN.{length, drop};
 ghost use Rattle.whole.specs.Lists.{all};
 ghost use Rattle.text.specs.Token.{allowed, tokens};
-ghost use Rattle.line_codes.specs.Line.{tested, deepest, oneForm, numberIfDigit, soundToken, readingOf, readingCode};
+ghost use Rattle.line_codes.specs.Line.{tested, firstIsShow, deepest, oneForm, numberIfDigit, soundToken, readingOf, readingCode};
 ghost use Rattle.line_codes.specs.Places.{closeAt};
 
-// How long a line may be, in bytes, and how much deeper than its outermost brackets forms may be nested.
+// How long a line may be, in bytes; how much deeper than its outermost brackets forms may be nested, and behind the word `show`.
 const LONGEST: usize = 2000;
 
 const DEEPER: usize = 3;
+
+const DEEPER_IN_SHOW: usize = 4;
 
 // What the tests of a whole line find, in their order.
 pub enum Reading {
@@ -74,9 +78,28 @@ fn close_at(s: &[u8], at: usize, left: usize) -> Closed
     Closed::Nowhere
 }
 
-// 12: whether a line is one closed form, with only spaces outside it and at most four brackets open.
+// How much deeper than the outermost brackets, which open just before `at`, forms may be nested: one more behind the word `show`.
+fn deeper_at(s: &[u8], at: usize) -> usize
+    requires { ⌜ at ≤ length (now s) ⌝ }
+    ensures { λ r. ⌜ r ≡ cond (firstIsShow (tokens (drop at (now (s .entry))))) 4 3 ⌝ }
+{
+    let t = text::next_at(s, at);
+    match t {
+        Next::Open(_) => DEEPER,
+        Next::Close(_) => DEEPER,
+        Next::Run(a, q) => {
+            if text::same(text::run_of(s, a, q), b"show") {
+                return DEEPER_IN_SHOW;
+            }
+            DEEPER
+        }
+        Next::End => DEEPER,
+    }
+}
+
+// 12: whether a line is one closed form, with only spaces outside it, no deeper than its first word lets.
 fn one_form(s: &[u8]) -> Test
-    ensures { λ r. ⌜ r ≡ tested (oneForm deepest (now (s .entry))) ⌝ }
+    ensures { λ r. ⌜ r ≡ tested (oneForm (deepest (tokens (now (s .entry)))) (now (s .entry))) ⌝ }
 {
     let at = text::scan(s, 0, SPACE);
     if s.len() <= at {
@@ -85,7 +108,7 @@ fn one_form(s: &[u8]) -> Test
     if s[at] != b'(' {
         return Test::Failed;
     }
-    let Closed::At(j) = close_at(s, at + 1, DEEPER) else {
+    let Closed::At(j) = close_at(s, at + 1, deeper_at(s, at + 1)) else {
         return Test::Failed;
     };
     if text::scan(s, j, SPACE) != s.len() {

@@ -1,8 +1,8 @@
--- `one_form`: 12: whether a line is one closed form, with only spaces outside it and at most four brackets open.
+-- `one_form`: 12: whether a line is one closed form, with only spaces outside it, no deeper than its first word lets.
 use mathlib.Core.Path.{sym, _∙_, ap}
 use native.Mathlib.Omega.{arith}
 use Rattle.line_codes.specs.Line.{tested}
-use Rattle.line_codes.proofs.Walks.{no-form, not-opened, form-from, afterClose, ends-there, ends-short}
+use Rattle.line_codes.proofs.Walks.{no-form, not-opened, form-by, afterClose, ends-there, ends-short}
 use Rattle.text.proofs.Scans.{stands, asked-spaces}
 use Rattle.line_codes.proofs.Closing.{placed}
 use borrow.Author.Needs.{needs}
@@ -21,15 +21,16 @@ returns-2 c =
 
 returns-3 : tie.Need-returns-3
 returns-3 c =
-    let k = c .before .before .before in
+    let d = c .before .before .before in
+    let k = d .before in
     let s = k .before .before .before .before .before .args .s .now in
     let r = sym (c .before .before .close-at .ensures) ∙ c .enum-told .given .1 in
-    let f = form-from s _ (stands asked-spaces s 0 (k .before .before .before .scan .ensures .0)) (search needs) _ (k .if2 .left) in
+    let f = form-by s _ (stands asked-spaces s 0 (k .before .before .before .scan .ensures .0)) (search needs) (k .if2 .left) _ (d .deeper-at .ensures) in
     ap tested (sym (f ∙ ap (afterClose _ s) r))
 
 scan-requires-2 : tie.Need-scan-requires-2
 scan-requires-2 c κs =
-    let k = c .before .before .before .before in
+    let k = c .before .before .before .before .before in
     let s = k .before .before .before .before .before .args .s .now in
     let r = sym (c .before .before .before .close-at .ensures) ∙ c .before .j .given .1 in
     placed s (k .before .before .before .scan .result) _ _ (search needs) r .1
@@ -37,19 +38,21 @@ scan-requires-2 c κs =
 returns-4 : tie.Need-returns-4
 returns-4 c =
     let j = c .before .before .before in
-    let k = j .before .before .before in
+    let d = j .before .before .before in
+    let k = d .before in
     let s = k .before .before .before .before .before .args .s .now in
     let r = sym (j .before .before .close-at .ensures) ∙ j .j .given .1 in
-    let f = form-from s _ (stands asked-spaces s 0 (k .before .before .before .scan .ensures .0)) (search needs) _ (k .if2 .left) in
+    let f = form-by s _ (stands asked-spaces s 0 (k .before .before .before .scan .ensures .0)) (search needs) (k .if2 .left) _ (d .deeper-at .ensures) in
     ap tested (sym (f ∙ ap (afterClose _ s) r ∙ ends-short _ s _ _ (stands asked-spaces s _ (c .before .scan2 .ensures .0)) (omega arith)))
 
 returns-5 : tie.Need-returns-5
 returns-5 c =
     let j = c .before .before .before in
-    let k = j .before .before .before in
+    let d = j .before .before .before in
+    let k = d .before in
     let s = k .before .before .before .before .before .args .s .now in
     let r = sym (j .before .before .close-at .ensures) ∙ j .j .given .1 in
-    let f = form-from s _ (stands asked-spaces s 0 (k .before .before .before .scan .ensures .0)) (search needs) _ (k .if2 .left) in
+    let f = form-by s _ (stands asked-spaces s 0 (k .before .before .before .scan .ensures .0)) (search needs) (k .if2 .left) _ (d .deeper-at .ensures) in
     ap tested (sym (f ∙ ap (afterClose _ s) r ∙ ends-there _ s _ _ (stands asked-spaces s _ (c .before .scan2 .ensures .0)) (omega arith)))
 
 pub one-form-spec : {M : Type 1} → statement M
@@ -61,6 +64,8 @@ one-form-spec =
     (λ c. search needs)
     returns-2
     (λ c. search needs)
+    (λ c. search needs)
+    (λ c κs. search needs)
     (λ c κs. search needs)
     (λ c. search needs)
     (λ c. search needs)

@@ -1,0 +1,66 @@
+-- Code 11: the bytes that a line may have, by the tests of the definitions and by the paper's words.
+use mathlib.Core.Path.{_≡_, refl}
+use mathlib.Core.Bool.{Bool, true, false, _&&_, _||_}
+use mathlib.Core.List.{List, [], _∷_}
+use Prim.Native.Nat.{ℕ, suc}
+use native.Mathlib.Omega.{arith}
+use lib.Dec.{eqb}
+use lib.ListN.{getD}
+use borrow.Author.Tests.{eqb-true}
+use Rattle.whole.specs.Lists.{within, all}
+use Rattle.whole.proofs.Lists.{within-true, within-by, all-at}
+use Rattle.text.specs.Token.{isLetter, isDigit, inRun, allowed}
+use Rattle.line_codes.specs.Codes.{LetterOrDigit, letter, digit, Allowed, opening, closing, space, ofRun, AllAllowed, OtherByte}
+
+-- ---- letters and digits
+or-right : (x : Bool) → (x || true) ≡ true
+or-right true = refl
+or-right false = refl
+
+pub in-run : {b : ℕ} → LetterOrDigit b → inRun b ≡ true
+in-run {b} (letter p q) = rw (within-by 97 122 b p q)
+in-run {b} (digit p q) = rw (within-by 48 57 b p q) (or-right (isLetter b))
+
+pub of-run : (b : ℕ) → inRun b ≡ true → LetterOrDigit b
+of-run b e = by (isLetter b) refl e
+  where
+    by : (x : Bool) → isLetter b ≡ x → (x || isDigit b) ≡ true → LetterOrDigit b
+    by true p w = let t = within-true 97 122 b p in letter (t .low) (t .high)
+    by false p w = let t = within-true 48 57 b w in digit (t .low) (t .high)
+
+pub no-run : (b : ℕ) → inRun b ≡ false → LetterOrDigit b → ⊥
+no-run b e l =
+    let z : _≡_ {A = ℕ} 0 1 = cc (in-run l) in omega arith
+
+-- ---- the bytes that a line may have
+one-of : (a b c d : Bool) (P : Type 0) → (a ≡ true → P) → (b ≡ true → P) → (c ≡ true → P) → (d ≡ true → P) → (a || b || c || d) ≡ true → P
+one-of true b c d P f g h k e = f refl
+one-of false true c d P f g h k e = g refl
+one-of false false true d P f g h k e = h refl
+one-of false false false true P f g h k e = k refl
+one-of false false false false P f g h k e =
+    let z : _≡_ {A = ℕ} 0 1 = cc in absurd (omega arith)
+
+pub may-stand : (b : ℕ) → allowed b ≡ true → Allowed b
+may-stand b e =
+    one-of (inRun b) (eqb b 32) (eqb b 40) (eqb b 41) (Allowed b) (λ p. ofRun (of-run b p)) (λ p. space (eqb-true b 32 p)) (λ p. opening (eqb-true b 40 p)) (λ p. closing (eqb-true b 41 p)) e
+
+passes : (b : ℕ) → Allowed b → allowed b ≡ true
+unfolding within
+passes b (opening e) = rw e
+passes b (closing e) = rw e
+passes b (space e) = rw e
+passes b (ofRun r) = rw (in-run r)
+
+pub other-byte : (s : List ℕ) → all allowed s ≡ false → OtherByte s
+unfolding all
+other-byte [] e =
+    let z : _≡_ {A = ℕ} 0 1 = cc in absurd (omega arith)
+other-byte (b ∷ s) e = by (allowed b) refl e (other-byte s)
+  where
+    by : (x : Bool) → allowed b ≡ x → (x && all allowed s) ≡ false → (all allowed s ≡ false → OtherByte s) → OtherByte (b ∷ s)
+    by true p w more = let o = more w in (suc (o .0), omega (arith, o .1), o .2)
+    by false p w more = (0, omega arith, λ a. let y = passes b a in let z : _≡_ {A = ℕ} 0 1 = cc in omega arith)
+
+pub all-allowed : (s : List ℕ) → all allowed s ≡ true → AllAllowed s
+all-allowed s e i h = may-stand (getD s i 0) (all-at allowed s i 0 e h)
