@@ -8,4 +8,6 @@ pub mod Words
 pub mod Shows
 pub mod Order
 pub mod Codes
+pub mod Along
+pub mod Alike
 pub mod Spaces

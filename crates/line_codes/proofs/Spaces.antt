@@ -1,52 +1,38 @@
 -- Spaces are free but inside a run: a space more changes neither the tests of a line nor its tokens.
-use mathlib.Core.Path.{_≡_, refl, ap}
-use mathlib.Core.Bool.{Bool, true, false, cond, _&&_}
+use mathlib.Core.Path.{_≡_, refl, sym, _∙_}
+use mathlib.Core.Bool.{Bool, true, false, _&&_}
 use mathlib.Core.List.{List, [], _∷_, _++_}
 use Prim.Native.Nat.{ℕ, suc, _-_, _≤_, _<_}
 use native.Mathlib.Omega.{arith}
-use lib.ListN.{length, getD}
-use borrow.Author.Tests.{le-ltb}
+use lib.ListN.{length, getD, length-append}
 use Rattle.whole.specs.Lists.{within, all}
-use Rattle.text.specs.Token.{allowed, Token, inRun, startsRun, glue, tokens}
-use Rattle.line_codes.specs.Line.{Stand, before, inside, behind, wrong, further, walked, deepest, readingOf}
+use Rattle.whole.proofs.Lists.{and-false, all-append}
+use Rattle.text.specs.Token.{allowed, startsRun, tokens}
+use Rattle.line_codes.specs.Line.{readingOf}
 use Rattle.line_codes.specs.Codes.{LetterOrDigit}
-use Rattle.text.proofs.Parts.{ends}
+use Rattle.text.proofs.Parts.{tokens-space, ends, tokens-append}
+use Rattle.line_codes.proofs.Alike.{reading-alike}
 use Rattle.line_codes.proofs.Bytes.{of-run}
+use Rattle.line_codes.proofs.Order.{bad-byte}
 
-apart : (r t : Bool) (x : ℕ) (ts u : List Token) → (r && t) ≡ false → cond r (glue false x ts) u ≡ cond r (glue t x ts) u
-apart false t x ts u e = refl
-apart true false x ts u e = refl
-apart true true x ts u e = let z : _≡_ {A = ℕ} 0 1 = cc in absurd (omega arith)
+module _ (a b : List ℕ) where
+  pub tokens-free : (ends a && startsRun b) ≡ false → tokens (a ++ 32 ∷ b) ≡ tokens (a ++ b)
+  unfolding within
+  tokens-free e = tokens-append a (32 ∷ b) (and-false (ends a)) ∙ rw (tokens-space b) (sym (tokens-append a b e))
 
-pub tokens-free : (a b : List ℕ) → (ends a && startsRun b) ≡ false → tokens (a ++ 32 ∷ b) ≡ tokens (a ++ b)
-unfolding tokens within ends
-tokens-free [] b e = refl
-tokens-free (x ∷ []) b e = apart (inRun x) (startsRun b) x (tokens b) _ e
-tokens-free (x ∷ y ∷ s) b e = rw (tokens-free (y ∷ s) b e) refl
+  allowed-free : all allowed (a ++ 32 ∷ b) ≡ all allowed (a ++ b)
+  unfolding all within
+  allowed-free = all-append allowed a (32 ∷ b) ∙ sym (all-append allowed a b)
 
-walked-free : (most : ℕ) (p : Stand) (a b : List ℕ) → walked most p (a ++ 32 ∷ b) ≡ walked most p (a ++ b)
-unfolding walked
-walked-free most before [] b = refl
-walked-free most (inside n) [] b = refl
-walked-free most behind [] b = refl
-walked-free most wrong [] b = refl
-walked-free most p (x ∷ a) b = walked-free most (further most p x) a b
+  pub reading-free : (ends a && startsRun b) ≡ false → length (a ++ b) < 2000 → readingOf (a ++ 32 ∷ b) ≡ readingOf (a ++ b)
+  reading-free e h = by (all allowed (a ++ b)) refl
+    where
+      long : length (a ++ 32 ∷ b) ≤ 2000
+      long = omega (arith, length-append a (32 ∷ b), length-append a b)
 
-allowed-free : (a b : List ℕ) → all allowed (a ++ 32 ∷ b) ≡ all allowed (a ++ b)
-unfolding all within
-allowed-free [] b = refl
-allowed-free (x ∷ a) b = ap (λ t. allowed x && t) (allowed-free a b)
-
-longer-free : (a b : List ℕ) → length (a ++ 32 ∷ b) ≡ suc (length (a ++ b))
-longer-free [] b = refl
-longer-free (x ∷ a) b = ap suc (longer-free a b)
-
-pub reading-free : (a b : List ℕ) → (ends a && startsRun b) ≡ false → length (a ++ b) < 2000 → readingOf (a ++ 32 ∷ b) ≡ readingOf (a ++ b)
-unfolding readingOf
-reading-free a b e h =
-    let k : length (a ++ 32 ∷ b) ≤ 2000 = omega (arith, longer-free a b) in
-    let l : length (a ++ b) ≤ 2000 = omega arith in
-    rw (le-ltb 2000 (length (a ++ 32 ∷ b)) k, le-ltb 2000 (length (a ++ b)) l, allowed-free a b, tokens-free a b e, walked-free (deepest (tokens (a ++ b))) before a b) refl
+      by : (x : Bool) → all allowed (a ++ b) ≡ x → readingOf (a ++ 32 ∷ b) ≡ readingOf (a ++ b)
+      by true p = reading-alike (a ++ 32 ∷ b) (a ++ b) (record { long = long; bytes = allowed-free ∙ p }) (record { long = omega arith; bytes = p }) (tokens-free e)
+      by false p = bad-byte (a ++ 32 ∷ b) long (allowed-free ∙ p) ∙ sym (bad-byte (a ++ b) (omega arith) p)
 
 -- ---- not both a ends and b begins with a letter or digit
 ends-some : (a : List ℕ) → ends a ≡ true → (0 < length a) × LetterOrDigit (getD a (length a - 1) 0)
