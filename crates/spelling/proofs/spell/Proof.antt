@@ -18,20 +18,7 @@ loop-holds c =
     let s = c .before .before in
     standing-first (s .args .s .now) (s .args .out .now) (s .pre)
 
-add-requires : tie.Need-add-requires Inv-loop μ-loop
-add-requires c κs =
-    let k = c .before .before .before in
-    let h = k .before .before .before in
-    let n = next-by _ _ (k .before .before .next-at .ensures) (k .q .given .1) in
-    standing-room (h .loop .inv) opened (k .q .given .0 .0) (n .0)
-
-loop-less : tie.Need-loop-less Inv-loop μ-loop
-loop-less c =
-    let k = c .before .before .before .before .before .before in
-    let h = k .before .before .before in
-    let n = next-by _ _ (k .before .before .next-at .ensures) (k .q .given .1) in
-    standing-less (h .loop .inv) opened (k .q .given .0 .0) (n .0)
-
+-- each token that is written keeps the standing
 loop-again : tie.Need-loop-again Inv-loop μ-loop
 loop-again c =
     let k = c .before .before .before .before .before .before in
@@ -39,12 +26,28 @@ loop-again c =
     let n = next-by _ _ (k .before .before .next-at .ensures) (k .q .given .1) in
     standing-next (h .loop .inv) opened (k .q .given .0 .0) (n .0) (n .1) (c .before .before .add .ensures)
 
-add-requires-2 : tie.Need-add-requires-2 Inv-loop μ-loop
-add-requires-2 c κs =
-    let k = c .before .before .before in
+loop-again-2 : tie.Need-loop-again-2 Inv-loop μ-loop
+loop-again-2 c =
+    let k = c .before .before .before .before .before .before in
     let h = k .before .before .before in
     let n = next-by _ _ (k .before .before .next-at .ensures) (k .q2 .given .1) in
-    standing-room (h .loop .inv) closed (k .q2 .given .0 .0) (n .0)
+    standing-next (h .loop .inv) closed (k .q2 .given .0 .0) (n .0) (n .1) (c .before .before .add2 .ensures)
+
+loop-again-3 : tie.Need-loop-again-3 Inv-loop μ-loop
+loop-again-3 c =
+    let k = c .before .before .before .before .before .before in
+    let h = k .before .before .before in
+    let n = next-by _ _ (k .before .before .next-at .ensures) (k .a .given .1) in
+    let e = rw (c .before .before .before .run-of .ensures) at (c .before .before .add3 .ensures) in
+    standing-next (h .loop .inv) (run _) (k .a .given .0 .1 .0) (n .0) (n .2) e
+
+-- each is one token less
+loop-less : tie.Need-loop-less Inv-loop μ-loop
+loop-less c =
+    let k = c .before .before .before .before .before .before in
+    let h = k .before .before .before in
+    let n = next-by _ _ (k .before .before .next-at .ensures) (k .q .given .1) in
+    standing-less (h .loop .inv) opened (k .q .given .0 .0) (n .0)
 
 loop-less-2 : tie.Need-loop-less-2 Inv-loop μ-loop
 loop-less-2 c =
@@ -53,12 +56,27 @@ loop-less-2 c =
     let n = next-by _ _ (k .before .before .next-at .ensures) (k .q2 .given .1) in
     standing-less (h .loop .inv) closed (k .q2 .given .0 .0) (n .0)
 
-loop-again-2 : tie.Need-loop-again-2 Inv-loop μ-loop
-loop-again-2 c =
+loop-less-3 : tie.Need-loop-less-3 Inv-loop μ-loop
+loop-less-3 c =
     let k = c .before .before .before .before .before .before in
     let h = k .before .before .before in
+    let n = next-by _ _ (k .before .before .next-at .ensures) (k .a .given .1) in
+    standing-less (h .loop .inv) (run _) (k .a .given .0 .1 .0) (n .0)
+
+-- each has room
+add-requires : tie.Need-add-requires Inv-loop μ-loop
+add-requires c κs =
+    let k = c .before .before .before in
+    let h = k .before .before .before in
+    let n = next-by _ _ (k .before .before .next-at .ensures) (k .q .given .1) in
+    standing-room (h .loop .inv) opened (k .q .given .0 .0) (n .0)
+
+add-requires-2 : tie.Need-add-requires-2 Inv-loop μ-loop
+add-requires-2 c κs =
+    let k = c .before .before .before in
+    let h = k .before .before .before in
     let n = next-by _ _ (k .before .before .next-at .ensures) (k .q2 .given .1) in
-    standing-next (h .loop .inv) closed (k .q2 .given .0 .0) (n .0) (n .1) (c .before .before .add2 .ensures)
+    standing-room (h .loop .inv) closed (k .q2 .given .0 .0) (n .0)
 
 run-of-requires : tie.Need-run-of-requires Inv-loop μ-loop
 run-of-requires c κs =
@@ -72,21 +90,6 @@ add-requires-3 c κs =
     let h = k .before .before .before in
     let n = next-by _ _ (k .before .before .next-at .ensures) (k .a .given .1) in
     rw (c .run-of .ensures) (standing-room (h .loop .inv) (run _) (k .a .given .0 .1 .0) (n .0))
-
-loop-less-3 : tie.Need-loop-less-3 Inv-loop μ-loop
-loop-less-3 c =
-    let k = c .before .before .before .before .before .before in
-    let h = k .before .before .before in
-    let n = next-by _ _ (k .before .before .next-at .ensures) (k .a .given .1) in
-    standing-less (h .loop .inv) (run _) (k .a .given .0 .1 .0) (n .0)
-
-loop-again-3 : tie.Need-loop-again-3 Inv-loop μ-loop
-loop-again-3 c =
-    let k = c .before .before .before .before .before .before in
-    let h = k .before .before .before in
-    let n = next-by _ _ (k .before .before .next-at .ensures) (k .a .given .1) in
-    let e = rw (c .before .before .before .run-of .ensures) at (c .before .before .add3 .ensures) in
-    standing-next (h .loop .inv) (run _) (k .a .given .0 .1 .0) (n .0) (n .2) e
 
 same-length : tie.Need-same-length Inv-loop μ-loop
 same-length c = standing-long (c .before .before .before .loop .inv)
