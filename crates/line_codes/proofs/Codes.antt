@@ -2,7 +2,7 @@
 use mathlib.Core.Path.{_≡_, refl, sym, _∙_}
 use mathlib.Core.Bool.{Bool, true, false, cond, not}
 use mathlib.Core.List.{List}
-use Prim.Native.Nat.{ℕ, _≤_}
+use Prim.Native.Nat.{ℕ}
 use native.Mathlib.Omega.{arith}
 use lib.Dec.{ltb}
 use lib.ListN.{length}
@@ -20,21 +20,15 @@ use Rattle.line_codes.proofs.Shows.{shows, begins}
 use Rattle.line_codes.proofs.Words.{bad-found, no-number-fails}
 
 -- ---- 12: one form, as deep as its line may be
-four-within : (x : Bool) → 4 ≤ cond x 5 4
-four-within true = omega arith
-four-within false = omega arith
-
 module _ (s : List ℕ) where
-  nested-passes : Nested s → oneForm (deepest (tokens s)) s ≡ true
-  nested-passes (four f) = form-passes 4 (deepest (tokens s)) s (four-within (isShow (tokens s))) f
-  nested-passes (five b f) = rw (shows s b) (form-passes 5 5 s (omega arith) f)
+  nested-passes : (x : Bool) → isShow (tokens s) ≡ x → Nested s → oneForm (deepest (tokens s)) s ≡ true
+  nested-passes true p (four f) = rw p (form-passes 4 5 s (omega arith) f)
+  nested-passes false p (four f) = rw p (form-passes 4 4 s (omega arith) f)
+  nested-passes x p (five b f) = rw (shows s b) (form-passes 5 5 s (omega arith) f)
 
-  nested-found : all allowed s ≡ true → oneForm (deepest (tokens s)) s ≡ true → Nested s
-  nested-found a e = by (isShow (tokens s)) refl e
-    where
-      by : (x : Bool) → isShow (tokens s) ≡ x → oneForm (cond x 5 4) s ≡ true → Nested s
-      by true p w = five (begins s a p) (form-found 4 s w)
-      by false p w = four (form-found 3 s w)
+  nested-found : (x : Bool) → isShow (tokens s) ≡ x → all allowed s ≡ true → oneForm (deepest (tokens s)) s ≡ true → Nested s
+  nested-found true p a w = five (begins s a p) (form-found 4 s (rw p at w))
+  nested-found false p a w = four (form-found 3 s (rw p at w))
 
 -- ---- the four tests in their order
 clash : {P : Type 0} → true ≡ false → P
@@ -71,7 +65,7 @@ module _ (s : List ℕ) where
   by-tests false true false n el eb ef en =
       let h = ltb-false 2000 (length s) el in
       let a = all-allowed s eb in
-      let no : Nested s → ⊥ = λ f. clash (sym (nested-passes s f) ∙ ef) in
+      let no : Nested s → ⊥ = λ f. clash (sym (nested-passes s (isShow (tokens s)) refl f) ∙ ef) in
       record {
         ten = (λ e. absurd (omega arith), λ k. absurd (omega arith));
         eleven = (λ e. absurd (omega arith), λ k. absurd (k .1 .2 (a (k .1 .0) (k .1 .1))));
@@ -82,7 +76,7 @@ module _ (s : List ℕ) where
   by-tests false true true false el eb ef en =
       let h = ltb-false 2000 (length s) el in
       let a = all-allowed s eb in
-      let f = nested-found s eb ef in
+      let f = nested-found s (isShow (tokens s)) refl eb ef in
       record {
         ten = (λ e. absurd (omega arith), λ k. absurd (omega arith));
         eleven = (λ e. absurd (omega arith), λ k. absurd (k .1 .2 (a (k .1 .0) (k .1 .1))));
@@ -93,7 +87,7 @@ module _ (s : List ℕ) where
   by-tests false true true true el eb ef en =
       let h = ltb-false 2000 (length s) el in
       let a = all-allowed s eb in
-      let f = nested-found s eb ef in
+      let f = nested-found s (isShow (tokens s)) refl eb ef in
       let good : NoNumber s → ⊥ = λ n. clash (sym en ∙ no-number-fails s n) in
       record {
         ten = (λ e. absurd (omega arith), λ k. absurd (omega arith));

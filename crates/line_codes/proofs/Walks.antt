@@ -1,5 +1,5 @@
 -- Laws of a walk along a line: byte by byte, over spaces, and over a form.
-use mathlib.Core.Path.{_≡_, refl, _∙_, ap}
+use mathlib.Core.Path.{_≡_, refl, sym, _∙_, ap}
 use mathlib.Core.Bool.{Bool, true, false, cond}
 use mathlib.Core.List.{List, [], _∷_}
 use Prim.Native.Nat.{ℕ, zero, suc, _+_, _-_, _≤_, _<_}
@@ -9,7 +9,7 @@ use lib.ListN.{length, getD, drop}
 use borrow.Author.Tests.{ne-eqb, eqb-true, lt-ltb, le-ltb}
 use lib.Seq.{drop-drop}
 use Rattle.text.specs.Token.{space, opened, tokens}
-use Rattle.line_codes.specs.Line.{before, inside, behind, wrong, outOf, walked, isBehind, oneForm, firstIsShow, deepest}
+use Rattle.line_codes.specs.Line.{before, inside, behind, wrong, outOf, walked, isBehind, oneForm, deepest}
 use Rattle.text.specs.Places.{spaces}
 use Rattle.line_codes.specs.Places.{closeAt}
 use Rattle.line_codes.specs.declared.Closed.{Closed}
@@ -96,11 +96,6 @@ neither : (most b : ℕ) (s : List ℕ) → eqb b space ≡ false → (b ≡ 40 
 unfolding walked
 neither most b s e q = rw (e, ne-eqb b 40 q, walked-wrong most s)
 
--- one more with the outermost brackets
-with-outer : (x : Bool) → cond x 5 4 ≡ cond x 4 3 + 1
-with-outer true = refl
-with-outer false = refl
-
 -- a line: its spaces, its opening bracket, its form, and spaces to its end
 module _ (s : List ℕ) (i : ℕ) (there : i ≡ 0 + spaces (drop 0 s)) where
   from-there : (most : ℕ) → oneForm most s ≡ isBehind (walked most before (drop i s))
@@ -124,7 +119,5 @@ module _ (s : List ℕ) (i : ℕ) (there : i ≡ 0 + spaces (drop 0 s)) where
       unfolding walked
       form-from left = from-there (left + 1) ∙ rw (drop-next s i 0 p, a) (walk-close s (left + 1) (drop (i + 1) s) (i + 1) left 0 refl refl)
 
-      pub form-by : (left : ℕ) → left ≡ cond (firstIsShow (tokens (drop (i + 1) s))) 4 3 → oneForm (deepest (tokens s)) s ≡ afterClose (left + 1) s (closeAt (drop (i + 1) s) (i + 1) left 0)
-      form-by left e =
-          let d : deepest (tokens s) ≡ left + 1 = rw (tokens-there, e) (with-outer (firstIsShow (tokens (drop (i + 1) s)))) in
-          ap (λ m. oneForm m s) d ∙ form-from left
+      pub form-by : (left : ℕ) → left + 1 ≡ deepest (opened ∷ tokens (drop (i + 1) s)) → oneForm (deepest (tokens s)) s ≡ afterClose (left + 1) s (closeAt (drop (i + 1) s) (i + 1) left 0)
+      form-by left e = ap (λ m. oneForm m s) (ap deepest tokens-there ∙ sym e) ∙ form-from left

@@ -6,12 +6,12 @@ use text::OTHER;
 use text::RUN;
 use text::SPACE;
 ghost use mathlib.Core.Path.{_≡_};
-ghost use mathlib.Core.Bool.{cond};
-ghost use Prim.Native.Nat.{_≤_};
+ghost use mathlib.Core.List.{_∷_};
+ghost use Prim.Native.Nat.{_+_, _≤_};
 ghost use lib.ListN.{length, drop};
 ghost use Rattle.whole.specs.Lists.{all};
-ghost use Rattle.text.specs.Token.{allowed, tokens};
-ghost use Rattle.line_codes.specs.Line.{tested, firstIsShow, deepest, oneForm, numberIfDigit, soundToken, readingOf, readingCode};
+ghost use Rattle.text.specs.Token.{allowed, opened, tokens};
+ghost use Rattle.line_codes.specs.Line.{tested, deepest, oneForm, numberIfDigit, soundToken, readingOf, readingCode};
 ghost use Rattle.line_codes.specs.Places.{closeAt};
 
 // How long a line may be, in bytes; how much deeper than its outermost brackets forms may be nested, and behind the word `show`.
@@ -81,7 +81,7 @@ fn close_at(s: &[u8], at: usize, left: usize) -> Closed
 // How much deeper than the outermost brackets, which open just before `at`, forms may be nested: one more behind the word `show`.
 fn deeper_at(s: &[u8], at: usize) -> usize
     requires { ⌜ at ≤ length (now s) ⌝ }
-    ensures { λ r. ⌜ r ≡ cond (firstIsShow (tokens (drop at (now (s .entry))))) 4 3 ⌝ }
+    ensures { λ r. ⌜ r + 1 ≡ deepest (opened ∷ tokens (drop at (now (s .entry)))) ⌝ }
 {
     let t = text::next_at(s, at);
     match t {
