@@ -24,31 +24,120 @@ SOUGHT = (
     + ["line above 60000 bytes"]
 )
 
+# What show does: each form; each code that turns it down; how deep; in which spelling; how long; sent again.
+SOUGHT_OF_SHOW = (
+    [f"{form} shown" for form in FORMS + ["judge"]]
+    + [f"show with code {code}" for code in ["10", "11", "12", "13", "14"]]
+    + [f"show {depth} deep with code {code}" for depth, code in [("four", "14"), ("five", "13"), ("five", "14"), ("six", "12")]]
+    + [f"five deep, first word {word}, with code 12" for word in ["sho", "shown", "showw", "other"]]
+    + ["show five deep inside another form with code 12"]
+    + [f"show of {what} with code 14" for what in ["nothing", "a show", "two forms", "a part"]]
+    + ["shown as it was spelled", "shown without a free space", "shown with two spaces together", "shown with 999999999"]
+    + ["shown from a line of 2000 bytes", "show of 2001 bytes"]
+    + ["reply of 2000 bytes", "reply of 2001 bytes", "reply of 2047 bytes", "reply of 2048 bytes"]
+    + [f"reply sent as the next line, with code {code}" for code in ["00", "10", "20"]]
+)
+
+# The longest reply of show: a line of 2,000 bytes without `(show` and `)`, and a space before each of 54 inner forms.
+LONGEST_SHOWN = 2_000 - len("(show)") + 54
+
 
 def check_codes(results):
-    found, byte_values = Counter(), set()
+    found, byte_values, longest = Counter(), set(), 0
     reference = support.build("reference")
     for kind in support.KINDS:
         for seed in support.GATE_SEEDS:
             data = support.generated(kind, seed, support.GATE_COUNT)
             byte_values.update(data)
+            before = None
             for line, reply in zip(split_lines(data), run_program(reference, data).replies()):
                 found.update(names_of(line, reply))
-    for name in SOUGHT:
+                if line == before:
+                    found[f"reply sent as the next line, with code {code_of(reply)}"] += 1
+                before = reply
+                longest = max(longest, len(reply))
+    for name in SOUGHT + SOUGHT_OF_SHOW:
         results.report(f"reached {name} ({found[name]} times)", None if found[name] else "never")
     missing = sorted(set(range(256)) - byte_values)
     results.report("reached every byte value", f"not {missing}" if missing else None)
+    why = None if longest == LONGEST_SHOWN else f"the longest has {longest}"
+    results.report(f"no reply above {LONGEST_SHOWN} bytes", why)
 
 
 def names_of(line, reply):
     """Which of the sought things a line and its reply are."""
+    if is_shown(reply):
+        return names_of_shown(line, reply)
     head, code, *figures = reply.decode().strip("()").split()
     names = [f"code {code}"]
     if (head, code) == ("answer", "00"):
-        names.append(f"{line.strip(b' (').split(b' ')[0].strip(b')').decode()} taken")
+        names.append(f"{first_word(line)} taken")
     if figures:
         names += names_of_figures(code, *(int(figure) for figure in figures))
+    if b"sho" in line:
+        names += names_of_refused_show(line, code)
     return names + names_of_length(len(line), code)
+
+
+def is_shown(reply):
+    """Whether a reply is a form that was shown: every other one begins with one of two words."""
+    return not reply.startswith((b"(answer ", b"(verdict "))
+
+
+def code_of(reply):
+    """The code that the caller gets with a reply."""
+    return "00" if is_shown(reply) else reply.decode().strip("()").split()[1]
+
+
+def first_word(line):
+    return line.strip(b" (").split(b" ")[0].split(b"(")[0].strip(b")").decode("latin-1")
+
+
+def names_of_shown(line, reply):
+    names = [f"{first_word(reply)} shown", f"reply of {len(reply)} bytes"]
+    if line == b"(show " + reply + b")":
+        names.append("shown as it was spelled")
+    if line == b"(show" + reply.replace(b" (", b"(") + b")" and reply.count(b"(") > 1:
+        names.append("shown without a free space")
+    if b"  " in line:
+        names.append("shown with two spaces together")
+    if b" 999999999" in reply:
+        names.append("shown with 999999999")
+    if len(line) == 2_000:
+        names.append("shown from a line of 2000 bytes")
+    return names
+
+
+def names_of_refused_show(line, code):
+    """Of a line in which `show` or nearly that word stands, and which is turned down."""
+    word, deep = first_word(line), depth(line)
+    names = []
+    if word == "show":
+        names.append(f"show with code {code}")
+        if 4 <= deep <= 6:
+            names.append(f"show {['four', 'five', 'six'][deep - 4]} deep with code {code}")
+        spelled = b"".join(line.split())
+        for what, begins in [("nothing", b"(show)"), ("a show", b"(show(show("), ("a part", b"(show(part")]:
+            if spelled.startswith(begins):
+                names.append(f"show of {what} with code {code}")
+        if spelled.startswith((b"(show(judge)(", b"(show(clear)(")):
+            names.append(f"show of two forms with code {code}")
+        if len(line) == 2_001:
+            names.append("show of 2001 bytes")
+    elif deep == 5:
+        names.append(f"five deep, first word {word if word in ('sho', 'shown', 'showw') else 'other'}, with code {code}")
+        if b"".join(line.split()).startswith(b"((show("):
+            names.append(f"show five deep inside another form with code {code}")
+    return names
+
+
+def depth(line):
+    """How deep a line is nested, if its brackets pair."""
+    deepest = opened = 0
+    for byte in line:
+        opened += (byte == ord("(")) - (byte == ord(")"))
+        deepest = max(deepest, opened)
+    return deepest
 
 
 def names_of_figures(code, gm, diff, upper, area):

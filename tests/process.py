@@ -93,6 +93,25 @@ def every_byte_value():
     return data, right
 
 
+def longest_show():
+    """A show line of 2,000 bytes around a hold with 54 inner forms and no free space, and its reply, the longest there is:
+    2,049 bytes with byte 10."""
+    cell = b"(wing 99999999 99999999 9999999 9999999)"
+    reply = b"(hold 99 trimmed 99 " + b" ".join([b"(part 99 " + b" ".join([cell] * 8) + b")"] * 6) + b")\n"
+    line = b"(show" + reply[:-1].replace(b" (", b"(") + b")\n"
+    assert (len(line), len(reply)) == (2_001, 2_049)
+    return line, reply
+
+
+def longest_shows():
+    """The longest replies with more and more short ones between them, so that they come wherever an output is nearly
+    full."""
+    line, reply = longest_show()
+    counts = range(170)
+    data = b"".join(count * b"(judge)\n" + line for count in counts)
+    return data, b"".join(count * b"(verdict 30)\n" + reply for count in counts)
+
+
 INPUTS = [
     ("worked run", WORKED_RUN, WORKED_REPLIES),
     ("worked run without a final byte 10", WORKED_RUN[:-1], WORKED_REPLIES),
@@ -106,6 +125,10 @@ INPUTS = [
     ("line of 2,001 bytes without byte 10", b"(judge)" + b" " * 1_994, b"(answer 10)\n"),
     ("lines ended by carriage returns", b"(judge)\r\n(judge)\r", b"(answer 11)\n(answer 11)\n"),
     ("every byte value", *every_byte_value()),
+    ("the longest reply of show", *longest_show()),
+    ("many of the longest replies of show", *longest_shows()),
+    ("show lines between judges", b"(judge)\n(judge)\n(show(judge))\n" * 100_000,
+     b"(verdict 30)\n(verdict 30)\n(judge)\n" * 100_000),
 ]
 
 

@@ -12,10 +12,10 @@ CRATES = REPOSITORY / "crates"
 SERVICE = REPOSITORY / "target" / "bin" / "panel_service"
 SMALL_SERVICE = REPOSITORY / "target" / "bin" / "small_service"
 # The right outputs of a panel with every request up to the newest that has landed.
-VECTORS = REPOSITORY.parent / "shared" / "vectors" / "p01"
+VECTORS = REPOSITORY.parent / "shared" / "vectors" / "p02"
 PAPER = REPOSITORY.parent / "shared" / "papers" / "01-scope.md"
 
-KINDS = ["runs", "edges", "damaged", "mixed"]
+KINDS = ["runs", "edges", "damaged", "mixed", "shows"]
 # The gate's lines: every kind with each of these seeds, so many lines each.
 GATE_SEEDS = [1, 2, 3]
 GATE_COUNT = 20_000

@@ -8,7 +8,7 @@ use crate::wanted;
 
 type Fault = fn(&mut Chance, Vec<u8>) -> Vec<u8>;
 
-const FAULTS: [Fault; 25] = [
+const FAULTS: [Fault; 26] = [
     any_byte_for_another,
     any_byte_between,
     byte_taken_away,
@@ -17,6 +17,7 @@ const FAULTS: [Fault; 25] = [
     bracket_doubled,
     bracket_turned,
     brackets_around,
+    show_around,
     leading_zeros,
     huge_number,
     number_with_letter,
@@ -73,6 +74,12 @@ pub fn damaged(chance: &mut Chance, line: Vec<u8>) -> Vec<u8> {
 /// A line that is still one closed form with sound numbers, but as a rule none of the shapes.
 pub fn out_of_shape(chance: &mut Chance, line: Vec<u8>) -> Vec<u8> {
     let fault: Fault = chance.pick(&[item_taken_away as Fault, item_doubled, item_between, other_word]);
+    fault(chance, line)
+}
+
+/// A line with a number that is none (13).
+pub fn unsound_number(chance: &mut Chance, line: Vec<u8>) -> Vec<u8> {
+    let fault: Fault = chance.pick(&[leading_zeros as Fault, leading_zeros, huge_number, number_with_letter]);
     fault(chance, line)
 }
 
@@ -153,6 +160,11 @@ fn bracket_turned(chance: &mut Chance, mut line: Vec<u8>) -> Vec<u8> {
 fn brackets_around(chance: &mut Chance, line: Vec<u8>) -> Vec<u8> {
     let pairs = 1 + chance.below(4);
     [b"(".repeat(pairs), line, b")".repeat(pairs)].concat()
+}
+
+/// A show around the whole, which is no fault where the line is one of the seven forms.
+fn show_around(_: &mut Chance, line: Vec<u8>) -> Vec<u8> {
+    [b"(show ", line.as_slice(), b")"].concat()
 }
 
 /// The pieces of a line, changed by the fault at the place of one that is wanted, put together with single spaces.
@@ -253,7 +265,7 @@ fn other_word(chance: &mut Chance, line: Vec<u8>) -> Vec<u8> {
     with_piece(chance, &line, is_word, |chance, pieces, place| {
         let words: &[&[u8]] = &[
             b"ship", b"column", b"load", b"hold", b"drop", b"judge", b"clear", b"new", b"old", b"trimmed", b"voided",
-            b"partial", b"part", b"wing", b"hatch", b"void", b"answer", b"verdict",
+            b"partial", b"part", b"wing", b"hatch", b"void", b"answer", b"verdict", b"show",
         ];
         pieces[place] = chance.pick(words).to_vec();
     })
@@ -374,7 +386,7 @@ fn spaced_to_a_length(chance: &mut Chance, mut line: Vec<u8>) -> Vec<u8> {
 
 /// Lines that are no form's spelling at all, and the smallest forms.
 fn faulty_from_the_start(chance: &mut Chance) -> Vec<u8> {
-    let lines: [&[u8]; 26] = [
+    let lines: [&[u8]; 32] = [
         b"",
         b" ",
         b"     ",
@@ -401,6 +413,12 @@ fn faulty_from_the_start(chance: &mut Chance) -> Vec<u8> {
         b")(",
         b"(judge)\r",
         b"(Judge)",
+        b"(show)",
+        b"(show (a (b (c (d)))))",
+        b"(show (a (b (c (01)))))",
+        b"(shown (a (b (c (d)))))",
+        b"((show (a (b (c)))))",
+        b"(show (a (b (c (d (e))))))",
     ];
     match chance.below(6) {
         0 => {

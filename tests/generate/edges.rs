@@ -4,6 +4,7 @@ use crate::chance::Chance;
 use crate::edge_arms;
 use crate::edge_figures;
 use crate::edge_voids;
+use crate::shows;
 use crate::spelling;
 
 type Family = fn(&mut Chance) -> Vec<String>;
@@ -46,5 +47,6 @@ const FAMILIES: [Family; 30] = [
 pub fn edge(chance: &mut Chance) -> Vec<Vec<u8>> {
     let family = chance.pick(&FAMILIES);
     let lines = family(chance);
-    lines.iter().map(|line| spelling::respaced(chance, line)).collect()
+    let lines = lines.iter().map(|line| spelling::respaced(chance, line)).collect();
+    shows::with_shows(chance, lines)
 }

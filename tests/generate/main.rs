@@ -4,6 +4,7 @@
 //! - `edges`: figures next to each limit
 //! - `damaged`: lines with every kind of fault
 //! - `mixed`: all of these, damaged lines between valid ones
+//! - `shows`: show lines alone; about one in ten lines of the other kinds is a show line too
 //!
 //! COUNT lines are written, each ended by byte 10. The reference's own modules find the figures next to a limit.
 
@@ -16,6 +17,7 @@ mod edges;
 mod records;
 mod runs;
 mod search;
+mod shows;
 mod spelling;
 mod wanted;
 
@@ -38,13 +40,15 @@ mod panel;
 mod rounding;
 #[path = "../reference/shape.rs"]
 mod shape;
+#[path = "../reference/show.rs"]
+mod show;
 
 use std::io::{self, BufWriter, Write};
 use std::process::ExitCode;
 
 use chance::Chance;
 
-const USAGE: &str = "usage: generate runs|edges|damaged|mixed SEED COUNT";
+const USAGE: &str = "usage: generate runs|edges|damaged|mixed|shows SEED COUNT";
 
 fn main() -> ExitCode {
     let arguments: Vec<String> = std::env::args().skip(1).collect();
@@ -70,11 +74,12 @@ struct Kind {
     lot: Lot,
 }
 
-const KINDS: [Kind; 4] = [
+const KINDS: [Kind; 5] = [
     Kind { name: "runs", lot: runs::run },
     Kind { name: "edges", lot: edges::edge },
     Kind { name: "damaged", lot: damage::damaged_run },
     Kind { name: "mixed", lot: mixed },
+    Kind { name: "shows", lot: shows::alone },
 ];
 
 fn understood(arguments: &[String]) -> Option<(&'static Kind, u64, usize)> {

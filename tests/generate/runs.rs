@@ -4,6 +4,7 @@ use crate::chance::Chance;
 use crate::damage;
 use crate::records;
 use crate::shape::Column;
+use crate::shows;
 use crate::spelling::{self, CLEAR, JUDGE};
 
 /// One run: most often a clear, a ship with its columns, load and holds, then changes with judges between them.
@@ -42,7 +43,8 @@ pub fn run(chance: &mut Chance) -> Vec<Vec<u8>> {
         lines.push(change(chance, likely, &columns));
         lines.push(JUDGE.to_string());
     }
-    lines.iter().map(|line| spoilt_or_respaced(chance, line)).collect()
+    let lines = lines.iter().map(|line| spoilt_or_respaced(chance, line)).collect();
+    shows::with_shows(chance, lines)
 }
 
 fn ship(chance: &mut Chance, likely: bool) -> String {

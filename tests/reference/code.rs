@@ -10,6 +10,7 @@ pub enum Code {
     NotANumber = 13,
     NoSuchShape = 14,
     ShortBuffer = 15,
+    ShortForShow = 16,
     OutOfLimits = 20,
     VoidDoesNotFit = 21,
     ColumnNotAbove = 22,

@@ -69,16 +69,19 @@ fn cell(cell: &Cell) -> bool {
 #[cfg(test)]
 mod tests {
     use crate::line::read;
-    use crate::shape::{form, Form};
+    use crate::shape::{request, Form, Request};
 
     /// Whether a line of a good shape is within its limits.
     fn within_limits(line: &str) -> bool {
-        match read(line.as_bytes()).and_then(form) {
-            Ok(Form::Ship(ship)) => super::ship(&ship),
-            Ok(Form::Column(column)) => super::column(&column),
-            Ok(Form::Load(load)) => super::load(&load),
-            Ok(Form::Hold(hold)) => super::hold(&hold),
-            Ok(Form::Drop(n)) => super::hold_number(n),
+        let Ok(Request::Form(form)) = read(line.as_bytes()).and_then(request) else {
+            panic!("none of the seven forms: {line:?}");
+        };
+        match form {
+            Form::Ship(ship) => super::ship(&ship),
+            Form::Column(column) => super::column(&column),
+            Form::Load(load) => super::load(&load),
+            Form::Hold(hold) => super::hold(&hold),
+            Form::Drop(n) => super::hold_number(n),
             other => panic!("no form with numbers: {other:?}"),
         }
     }

@@ -6,6 +6,8 @@ use crate::code::Code;
 pub const LONGEST_LINE: usize = 2_000;
 /// The deepest nesting; the outer bracket is depth 1.
 const DEEPEST: usize = 4;
+/// The deepest nesting of a line whose outer form begins with the word `show` (document 02, P2).
+const DEEPEST_OF_SHOW: usize = 5;
 /// A number has at most nine digits: 0 to 999,999,999.
 const MOST_DIGITS: usize = 9;
 
@@ -18,7 +20,7 @@ pub enum Token<'a> {
 }
 
 /// The brackets and runs of a line whose bytes are all right, in their order.
-#[derive(Clone, Copy)]
+#[derive(Clone, Copy, Debug, PartialEq, Eq)]
 pub struct Tokens<'a> {
     rest: &'a [u8],
 }
@@ -31,10 +33,10 @@ pub fn read(line: &[u8]) -> Result<Tokens<'_>, Code> {
     if !line.iter().all(|&byte| is_panel_byte(byte)) {
         return Err(Code::WrongByte);
     }
-    if !is_one_closed_form(line) {
+    let tokens = Tokens { rest: line };
+    if !is_one_closed_form(line, deepest(tokens)) {
         return Err(Code::NotOneForm);
     }
-    let tokens = Tokens { rest: line };
     if !every_number_is_sound(tokens) {
         return Err(Code::NotANumber);
     }
@@ -50,8 +52,18 @@ fn is_run_byte(byte: u8) -> bool {
     matches!(byte, b'a'..=b'z' | b'0'..=b'9')
 }
 
-/// Code 12: exactly one closed form, only spaces outside it, nested at most four deep.
-fn is_one_closed_form(line: &[u8]) -> bool {
+/// How deep a line may be nested: the first item of its outer form decides. Of a line that is not one form, which is
+/// code 12 at any depth, it does not matter.
+fn deepest(tokens: Tokens) -> usize {
+    if tokens.begin_with_show() {
+        DEEPEST_OF_SHOW
+    } else {
+        DEEPEST
+    }
+}
+
+/// Code 12: exactly one closed form, only spaces outside it, nested at most so deep.
+fn is_one_closed_form(line: &[u8], deepest: usize) -> bool {
     let mut forms = 0;
     let mut depth = 0;
     for &byte in line {
@@ -61,7 +73,7 @@ fn is_one_closed_form(line: &[u8]) -> bool {
                     forms += 1;
                 }
                 depth += 1;
-                if depth > DEEPEST {
+                if depth > deepest {
                     return false;
                 }
             }
@@ -108,6 +120,18 @@ pub fn number(run: &[u8]) -> Option<i128> {
         value = 10 * value + i128::from(byte - b'0');
     }
     Some(value)
+}
+
+impl<'a> Tokens<'a> {
+    /// Whether the first item of the outer form is the word `show`.
+    pub fn begin_with_show(mut self) -> bool {
+        self.next() == Some(Token::Open) && self.next() == Some(Token::Run(b"show"))
+    }
+
+    /// Those of the tokens that come before `later`, which is what is left of them after some calls of `next`.
+    pub fn before(self, later: Tokens<'a>) -> Tokens<'a> {
+        Tokens { rest: &self.rest[..self.rest.len() - later.rest.len()] }
+    }
 }
 
 impl<'a> Iterator for Tokens<'a> {
@@ -202,6 +226,45 @@ mod tests {
             assert_eq!(code(line.as_bytes()), Code::Done, "{line:?}");
         }
         assert_eq!(code(b"(drop 00"), Code::NotOneForm, "12 comes before 13");
+    }
+
+    #[test]
+    fn five_deep_where_the_outer_form_begins_with_the_word_show_and_four_elsewhere() {
+        for line in [
+            "(show (a (b (c (d)))))",
+            "(show(a(b(c(d)))))",
+            "  (  show  (a(b(c(d)))))",
+            "(show ((((a)))))",
+            "(show (a (b (c (d)))) (e (f (g (h)))))",
+            "(show a (b (c (d (e)))))",
+        ] {
+            assert_eq!(code(line.as_bytes()), Code::Done, "{line:?}");
+        }
+        for line in [
+            "(show (a (b (c (d (e))))))",
+            "(show (((((a))))))",
+            "(show (a) (b (c (d (e (f))))))",
+            "(shown (a (b (c (d)))))",
+            "(sho (a (b (c (d)))))",
+            "(showw (a (b (c (d)))))",
+            "(show1 (a (b (c (d)))))",
+            "(1show (a (b (c (d)))))",
+            "(sh ow (a (b (c (d)))))",
+            "(a show (b (c (d (e)))))",
+            "(() show (b (c (d (e)))))",
+            "((show (a (b (c)))))",
+            "((((show))) (((((a))))))",
+            "(judge (show (a (b (c)))))",
+            "(show (a (b (c (d))))) (judge)",
+            "(judge) (show (a (b (c (d)))))",
+            "show (show (a (b (c (d)))))",
+            "(show (a (b (c (d))))",
+            "(show (a (b (c (d))))))",
+        ] {
+            assert_eq!(code(line.as_bytes()), Code::NotOneForm, "{line:?}");
+        }
+        assert_eq!(code(b"(show (a (b (c (01)))))"), Code::NotANumber);
+        assert_eq!(code(b"(show (a (b (c (d (01))))))"), Code::NotOneForm, "12 comes before 13");
     }
 
     #[test]

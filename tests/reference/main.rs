@@ -14,6 +14,7 @@ mod panel;
 mod rounding;
 mod service;
 mod shape;
+mod show;
 
 use std::process::ExitCode;
 

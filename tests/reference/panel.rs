@@ -6,8 +6,9 @@ use crate::arms::{self, Verdict};
 use crate::code::Code;
 use crate::grain;
 use crate::limits;
-use crate::line;
-use crate::shape::{self, Column, Form, Hold, Load, Ship};
+use crate::line::{self, Tokens};
+use crate::shape::{self, Column, Form, Hold, Load, Request, Ship};
+use crate::show::{self, LEAST_FOR_SHOW};
 
 /// A lent reply buffer shorter than this is code 15.
 pub const LEAST_BUFFER: usize = 96;
@@ -28,9 +29,11 @@ pub struct Condition {
 
 /// What the panel replies to a line.
 #[derive(Clone, Copy, Debug, PartialEq, Eq)]
-enum Reply {
+enum Reply<'a> {
     /// `(answer CC)`
     Answer(Code),
+    /// The form that show is around, in one spelling
+    Shown(Tokens<'a>),
     /// `(verdict CC)`, of 30 to 34
     NoVerdict(Code),
     /// `(verdict CC GM DIFF UPPER AREA)`
@@ -43,15 +46,21 @@ impl Condition {
         if buffer.len() < LEAST_BUFFER {
             return (Code::ShortBuffer, 0);
         }
-        let reply = self.reply_to(line);
+        let reply = self.reply_to(line, buffer.len());
         (reply.code(), reply.write(buffer))
     }
 
-    fn reply_to(&mut self, line: &[u8]) -> Reply {
-        let form = match line::read(line).and_then(shape::form) {
-            Ok(form) => form,
-            Err(code) => return Reply::Answer(code),
-        };
+    /// The reply to a line where this many bytes are lent.
+    fn reply_to<'a>(&mut self, line: &'a [u8], lent: usize) -> Reply<'a> {
+        match line::read(line).and_then(shape::request) {
+            Ok(Request::Form(form)) => self.take(form),
+            Ok(Request::Show(_)) if lent < LEAST_FOR_SHOW => Reply::Answer(Code::ShortForShow),
+            Ok(Request::Show(shown)) => Reply::Shown(shown),
+            Err(code) => Reply::Answer(code),
+        }
+    }
+
+    fn take(&mut self, form: Form) -> Reply<'static> {
         let done = match form {
             Form::Judge => return self.judge(),
             Form::Ship(ship) => self.take_ship(ship),
@@ -139,7 +148,7 @@ impl Condition {
     }
 
     /// Codes 30 to 34 in their order, then the verdict. Changes nothing.
-    fn judge(&self) -> Reply {
+    fn judge(&self) -> Reply<'static> {
         let Some(ship) = &self.ship else {
             return Reply::NoVerdict(Code::NoShip);
         };
@@ -160,16 +169,17 @@ impl Condition {
     }
 }
 
-impl Reply {
+impl Reply<'_> {
     fn code(&self) -> Code {
         match self {
             Reply::Answer(code) | Reply::NoVerdict(code) => *code,
+            Reply::Shown(_) => Code::Done,
             Reply::Verdict(verdict) => verdict.code,
         }
     }
 
     /// Writes the reply and its newline at the buffer's front and answers their length. The longest reply is far
-    /// below 96 bytes; the bytes behind it keep their contents.
+    /// below 96 bytes, that of show below 2,100; the bytes behind it keep their contents.
     fn write(&self, buffer: &mut [u8]) -> usize {
         let lent = buffer.len();
         let mut left = buffer;
@@ -177,11 +187,12 @@ impl Reply {
         let written = match self {
             Reply::Answer(_) => writeln!(left, "(answer {number:02})"),
             Reply::NoVerdict(_) => writeln!(left, "(verdict {number:02})"),
+            Reply::Shown(form) => left.write_all(&show::spelled(*form)).and_then(|()| writeln!(left)),
             Reply::Verdict(Verdict { gm, diff, upper, area, .. }) => {
                 writeln!(left, "(verdict {number:02} {gm} {diff} {upper} {area})")
             }
         };
-        written.expect("96 bytes hold every reply");
+        written.expect("the buffer holds every reply");
         lent - left.len()
     }
 }
@@ -202,9 +213,22 @@ mod tests {
     const VERDICT: &str = "(verdict 00 900000 368832 3500 2012606617)\n";
 
     fn reply(condition: &mut Condition, line: &str) -> String {
-        let mut buffer = [0; LEAST_BUFFER];
-        let (_, length) = condition.step(line.as_bytes(), &mut buffer);
-        String::from_utf8_lossy(&buffer[..length]).into_owned()
+        lent(condition, line, LEAST_BUFFER).1
+    }
+
+    /// The code and the reply of a line where this many bytes are lent; those behind the reply keep their contents.
+    fn lent(condition: &mut Condition, line: &str, bytes: usize) -> (u8, String) {
+        let mut buffer = vec![b'#'; bytes];
+        let (code, length) = condition.step(line.as_bytes(), &mut buffer);
+        assert!(buffer[length..].iter().all(|&byte| byte == b'#'), "{line}");
+        (code.number(), String::from_utf8_lossy(&buffer[..length]).into_owned())
+    }
+
+    /// A show line's reply, which must come with 00.
+    fn shown(condition: &mut Condition, line: &str) -> String {
+        let (code, reply) = lent(condition, line, LEAST_FOR_SHOW);
+        assert_eq!(code, 0, "{line}");
+        reply
     }
 
     /// The condition after these lines, all of which are taken with 00.
@@ -374,6 +398,132 @@ mod tests {
     }
 
     #[test]
+    fn show_replies_with_the_form_and_no_code() {
+        let mut condition = Condition::default();
+        for (line, right) in [
+            ("(show (judge))", "(judge)\n"),
+            ("(show(clear))", "(clear)\n"),
+            (" ( show ( drop  99 ) ) ", "(drop 99)\n"),
+            ("(show(load 999999999 0 65536))", "(load 999999999 0 65536)\n"),
+            ("(show (ship old 0 9001))", "(ship old 0 9001)\n"),
+            ("(show(hold 17 trimmed 0(part 0(void 1 1 0))))", "(hold 17 trimmed 0 (part 0 (void 1 1 0)))\n"),
+        ] {
+            assert_eq!(shown(&mut condition, line), right, "{line}");
+        }
+    }
+
+    #[test]
+    fn show_never_changes_the_condition() {
+        let mut condition = after(&RUN[..6]);
+        let before = condition.clone();
+        let others =
+            ["(clear)", "(drop 1)", "(ship old 1 1)", "(load 25000 1 0)", "(hold 1 partial 5000 (part 1 1 1 1))"];
+        for form in RUN.iter().chain(&others) {
+            assert_eq!(shown(&mut condition, &format!("(show {form})")), format!("{form}\n"));
+            assert_eq!(condition, before, "{form}");
+        }
+        assert_eq!(reply(&mut condition, RUN[6]), VERDICT);
+    }
+
+    #[test]
+    fn a_condition_of_shown_lines_is_that_of_the_lines() {
+        let mut condition = Condition::default();
+        for line in &RUN[..6] {
+            let spaced = line.replace(" (", "(").replace(' ', "   ").replace(')', " ) ");
+            let copied = shown(&mut condition, &format!("(show {spaced})"));
+            assert_eq!(copied, format!("{line}\n"));
+            assert_eq!(code(&mut condition, copied.trim_end()), 0, "{line}");
+        }
+        assert_eq!(condition, after(&RUN[..6]));
+    }
+
+    #[test]
+    fn sixteen_comes_after_14_and_fifteen_before_everything() {
+        let mut condition = after(&RUN[..6]);
+        let before = condition.clone();
+        for bytes in [0, 1, 95] {
+            for line in ["(show (clear))", "(show)", "(show (drop 01))", "A"] {
+                assert_eq!(lent(&mut condition, line, bytes), (15, String::new()), "{line} lent {bytes}");
+            }
+        }
+        for bytes in [96, 97, 2_099] {
+            for (line, number) in [
+                ("(show (clear))", 16),
+                ("(show (drop 99))", 16),
+                ("(show)", 14),
+                ("(show (show (judge)))", 14),
+                ("(show (a (b (c (d)))))", 14),
+                ("(show (drop 01))", 13),
+                ("(show (judge)", 12),
+                ("(Show (judge))", 11),
+                (&format!("(show (judge){})", " ".repeat(2_000)), 10),
+                ("(clear 1)", 14),
+                ("(drop 99)", 20),
+            ] {
+                assert_eq!(lent(&mut condition, line, bytes), (number, format!("(answer {number})\n")), "{line}");
+            }
+            assert_eq!(lent(&mut condition, "(judge)", bytes), (0, VERDICT.to_string()), "96 bytes are enough");
+        }
+        for bytes in [2_100, 2_101, 5_000] {
+            assert_eq!(lent(&mut condition, "(show (clear))", bytes), (0, "(clear)\n".to_string()));
+            assert_eq!(lent(&mut condition, "(show)", bytes), (14, "(answer 14)\n".to_string()));
+        }
+        assert_eq!(condition, before);
+    }
+
+    /// A show line of this many bytes around the hold form with the most inner forms, 54, with no space but the needed
+    /// ones, and the form in the one spelling.
+    fn show_of_54_inner_forms(length: usize) -> (String, String) {
+        let mut numbers = 0;
+        let mut line = String::new();
+        let mut spelled = String::new();
+        // Each pass makes the line's numbers one digit longer, one after the other, until it is long enough.
+        while line.len() < length {
+            let mut place = 0;
+            let mut next = || {
+                place += 1;
+                "9".repeat(1 + numbers / 200 + usize::from(place <= numbers % 200))
+            };
+            let parts: Vec<String> = (0..6)
+                .map(|_| {
+                    let cells: Vec<String> =
+                        (0..8).map(|_| format!("(wing {} {} {} {})", next(), next(), next(), next())).collect();
+                    format!("(part {} {})", next(), cells.join(" "))
+                })
+                .collect();
+            spelled = format!("(hold {} trimmed {} {})", next(), next(), parts.join(" "));
+            line = format!("(show{})", spelled.replace(" (", "("));
+            numbers += 1;
+        }
+        assert_eq!(line.len(), length);
+        (line, spelled)
+    }
+
+    #[test]
+    fn the_longest_reply_of_show_has_2049_bytes() {
+        let mut condition = Condition::default();
+        let (line, spelled) = show_of_54_inner_forms(2_000);
+        let reply = shown(&mut condition, &line);
+        assert_eq!(reply, format!("{spelled}\n"));
+        assert_eq!(reply.len(), 2_049);
+        assert_eq!(code(&mut condition, &spelled), 10, "as a line it is too long");
+        let (longer, _) = show_of_54_inner_forms(2_001);
+        assert_eq!(code(&mut condition, &longer), 10);
+    }
+
+    #[test]
+    fn a_reply_of_2000_bytes_is_read_as_the_same_form() {
+        let mut condition = Condition::default();
+        let (line, spelled) = show_of_54_inner_forms(1_952);
+        assert_eq!(shown(&mut condition, &line), format!("{spelled}\n"));
+        assert_eq!(spelled.len(), 2_000);
+        assert_eq!(code(&mut condition, &spelled), 20);
+        assert_eq!(code(&mut condition, &format!("(show {spelled})")), 10);
+        let (_, one_more) = show_of_54_inner_forms(1_953);
+        assert_eq!(code(&mut condition, &one_more), 10);
+    }
+
+    #[test]
     fn readings_of_lines() {
         let mut condition = Condition::default();
         for (line, number) in [
@@ -394,6 +544,11 @@ mod tests {
             ("(clear)\r", 11),
             ("(hold 1 trimmed 12500(part 1(void 1 1 2)))", 0),
             ("(hold 1 partial 12500(part 0(void 1 1 2)))", 14),
+            ("(show (a (b (c (d)))))", 14),
+            ("(show (a (b (c (01)))))", 13),
+            ("(shown (a (b (c (d)))))", 12),
+            ("((show (a (b (c)))))", 12),
+            ("(show (a (b (c (d (e))))))", 12),
         ] {
             assert_eq!(code(&mut condition, line), number, "{line:?}");
         }

@@ -3,7 +3,8 @@
 use std::io::{self, ErrorKind, Read, Write};
 
 use crate::line::LONGEST_LINE;
-use crate::panel::{Condition, LEAST_BUFFER};
+use crate::panel::Condition;
+use crate::show::LEAST_FOR_SHOW;
 
 const BLOCK: usize = 64 * 1024;
 
@@ -96,7 +97,8 @@ impl<'a, W: Write> Panel<'a, W> {
     }
 
     fn take(&mut self, line: &[u8]) -> io::Result<()> {
-        if self.replies.len() - self.used < LEAST_BUFFER {
+        // Every line is lent as much as a show form needs.
+        if self.replies.len() - self.used < LEAST_FOR_SHOW {
             self.send()?;
         }
         let (_, length) = self.condition.step(line, &mut self.replies[self.used..]);
@@ -221,5 +223,17 @@ mod tests {
     fn many_replies_fill_the_output_more_than_once() {
         let input = b"(judge)\n".repeat(20_000);
         assert_eq!(served_in_pieces(&input, usize::MAX, ServiceLimits::default()), "(verdict 30)\n".repeat(20_000));
+    }
+
+    #[test]
+    fn every_line_is_lent_enough_for_show() {
+        // Short replies between them, so that show lines come wherever the output is nearly full.
+        let shown = format!("(hold 1 trimmed 1 {})", ["(part 123456789 (wing 1 2 3 4))"; 6].join(" "));
+        let (mut input, mut right) = (String::new(), String::new());
+        for count in 0..700 {
+            input += &format!("{}(show {shown})\n", "(judge)\n".repeat(count % 13));
+            right += &format!("{}{shown}\n", "(verdict 30)\n".repeat(count % 13));
+        }
+        assert_eq!(served_in_pieces(input.as_bytes(), usize::MAX, ServiceLimits::default()), right);
     }
 }

@@ -1,4 +1,4 @@
-//! The forms of the panel and the records they carry: code 14.
+//! The forms of the panel, the records they carry, and what a line asks for: code 14.
 //!
 //! Numbers stand in the records as they were read; limits.rs holds them to their limits.
 
@@ -77,6 +77,7 @@ pub struct Hold {
     pub parts: Vec<Part>,
 }
 
+/// The seven forms of document 01.
 #[derive(Clone, Debug, PartialEq, Eq)]
 pub enum Form {
     Ship(Ship),
@@ -86,6 +87,14 @@ pub enum Form {
     Drop(i128),
     Judge,
     Clear,
+}
+
+/// What a line asks for.
+#[derive(Clone, Debug, PartialEq, Eq)]
+pub enum Request<'a> {
+    Form(Form),
+    /// `(show FORM)`: the tokens of FORM, which has the shape of one of the seven.
+    Show(Tokens<'a>),
 }
 
 impl Cell {
@@ -102,15 +111,29 @@ impl Cell {
     }
 }
 
-/// The form that a line's tokens spell, or code 14. The tokens are those of one closed form.
-pub fn form(tokens: Tokens) -> Result<Form, Code> {
+/// What a line's tokens ask for, or code 14. The tokens are those of one closed form.
+pub fn request(tokens: Tokens<'_>) -> Result<Request<'_>, Code> {
     let mut items = Items { tokens };
+    if !tokens.begin_with_show() {
+        return Ok(Request::Form(form(&mut items)?));
+    }
+    items.open()?;
+    items.word()?;
+    let shown = items.tokens;
+    form(&mut items)?;
+    let shown = shown.before(items.tokens);
+    items.close()?;
+    Ok(Request::Show(shown))
+}
+
+/// One of the seven forms.
+fn form(items: &mut Items) -> Result<Form, Code> {
     items.open()?;
     let form = match items.word()? {
-        b"ship" => Form::Ship(ship(&mut items)?),
-        b"column" => Form::Column(column(&mut items)?),
-        b"load" => Form::Load(load(&mut items)?),
-        b"hold" => Form::Hold(hold(&mut items)?),
+        b"ship" => Form::Ship(ship(items)?),
+        b"column" => Form::Column(column(items)?),
+        b"load" => Form::Load(load(items)?),
+        b"hold" => Form::Hold(hold(items)?),
         b"drop" => Form::Drop(items.number()?),
         b"judge" => Form::Judge,
         b"clear" => Form::Clear,
@@ -253,7 +276,18 @@ mod tests {
     use crate::line::read;
 
     fn read_form(line: &str) -> Result<Form, Code> {
-        read(line.as_bytes()).and_then(form)
+        match read(line.as_bytes()).and_then(request)? {
+            Request::Form(form) => Ok(form),
+            Request::Show(_) => panic!("a show form: {line:?}"),
+        }
+    }
+
+    /// The tokens that a show form shows.
+    fn read_shown(line: &str) -> Result<Vec<Token<'_>>, Code> {
+        match read(line.as_bytes()).and_then(request)? {
+            Request::Show(shown) => Ok(shown.collect()),
+            Request::Form(form) => panic!("{form:?}: {line:?}"),
+        }
     }
 
     fn hold_of(parts: &[&str], mode: &str) -> String {
@@ -361,6 +395,68 @@ mod tests {
         }
         assert!(read_form(&hold_of(&["(part 1 1 1 1)"; 6], "partial")).is_ok());
         assert_eq!(read_form(&hold_of(&["(part 1 1 1 1)"; 7], "partial")), Err(Code::NoSuchShape));
+    }
+
+    #[test]
+    fn show_is_around_any_of_the_seven_forms_whatever_its_numbers() {
+        for form in [
+            "(ship new 0 999999999)",
+            "(column 1 2 (9 8 7 6 5 4 3 2 1 0))",
+            "(load 0 0 0)",
+            "(hold 99 voided 2 (part 3 (wing 4 5 6 7) (hatch 8 9 10) (void 11 12 13)))",
+            "(hold 1 partial 2 (part 3 4 5 6) (part 0 0 0 0))",
+            "(drop 99)",
+            "(judge)",
+            "(clear)",
+        ] {
+            let tokens: Vec<Token> = read(form.as_bytes()).expect(form).collect();
+            for line in [format!("(show {form})"), format!("(show{form})"), format!(" ( show  {form} ) ")] {
+                assert_eq!(read_shown(&line), Ok(tokens.clone()), "{line:?}");
+            }
+        }
+    }
+
+    #[test]
+    fn show_of_anything_else_is_14() {
+        for line in [
+            "(show)",
+            "(show ())",
+            "(show judge)",
+            "(show show)",
+            "(show 1)",
+            "(show ((judge)))",
+            "(show (show (judge)))",
+            "(show (show))",
+            "(show (judge) (judge))",
+            "(show (judge) 1)",
+            "(show (judge) judge)",
+            "(show (judge) ())",
+            "(show 1 (judge))",
+            "(show show (judge))",
+            "(show (part 1 (void 1 1 1)))",
+            "(show (part 1 1 1 1))",
+            "(show (void 1 1 1))",
+            "(show (0 1 2 3 4 5 6 7 8 9))",
+            "(show (answer 14))",
+            "(show (judge 1))",
+            "(show (judge1))",
+            "(show (drop))",
+            "(show (drop a))",
+            "(show (ship newer 1 2))",
+            "(show (hold 1 trimmed 12500))",
+            "(show (hold 1 partial 12500 (part 1 (void 1 1 1))))",
+            "(show (hold 1 trimmed 12500 (part 1 (void 1 1 (1)))))",
+            "(show (a (b (c (d)))))",
+            "(show1 (judge))",
+            "(shown (judge))",
+            "(sho (judge))",
+            "(showw (judge))",
+            "(sho w (judge))",
+            "((show) (judge))",
+            "((show (judge)))",
+        ] {
+            assert_eq!(read(line.as_bytes()).and_then(request), Err(Code::NoSuchShape), "{line:?}");
+        }
     }
 
     #[test]

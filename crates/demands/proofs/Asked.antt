@@ -9,34 +9,37 @@ use borrow.Author.Tests.{ltb-true, ltb-false, lt-ltb, le-ltb}
 use Rattle.whole.specs.Lists.{isOneOf}
 use Rattle.line_codes.specs.declared.Reading.{Reading}
 use Rattle.line_codes.specs.declared.Reading.the-variants.{Sound, TooLong, BadByte, NotOneForm, BadNumber}
+use Rattle.text.specs.Token.{tokens}
 use Rattle.line_codes.specs.Line.{readingOf, readingCode}
 use Rattle.line_codes.proofs.Codes.{line-code}
 use Rattle.request.specs.declared.Kind.{Kind}
 use Rattle.condition.specs.declared.Condition.{Condition}
 use Rattle.panel.specs.Step.{Outcome, outcomeBy, outcomeOf, outcomeAfter, stepOf}
-use Rattle.demands.specs.Codes.{request, Asks}
-use Rattle.demands.specs.Codes.{SoundLine}
+use Rattle.demands.specs.Codes.{request, SoundLine, Asks}
 use Rattle.hearing.proofs.Hearing.{line-sound}
 
 -- a line to which none of 10 to 13 applies passes the tests of the whole line
 pub none-applies : (line : List ℕ) → readingOf line ≡ Sound → SoundLine line
 none-applies line e = line-code line .sound .0 (ap readingCode e)
 
-passes-all : (line : List ℕ) → SoundLine line → readingOf line ≡ Sound
+pub passes-all : (line : List ℕ) → SoundLine line → readingOf line ≡ Sound
 passes-all line s = line-sound (readingOf line) (line-code line .sound .1 s)
 
 -- the codes that are given before the request is looked at
 abbrev pub early : List ℕ
 early = 10 ∷ 11 ∷ 12 ∷ 13 ∷ 15 ∷ []
 
--- what the request asks for
-abbrev pub requested : Condition → List ℕ → Outcome
-requested c line = outcomeBy c (request line .kind) (request line .hold) (request line .column)
+-- what a line asks for, were its form of this kind; and what it asks for
+abbrev pub askedFor : Condition → List ℕ → ℕ → Kind → Outcome
+askedFor c line lent k = outcomeBy c (tokens line) lent k (request line .hold) (request line .column)
+
+abbrev pub requested : Condition → List ℕ → ℕ → Outcome
+requested c line lent = askedFor c line lent (request line .kind)
 
 pub record Heard (c : Condition) (line : List ℕ) (lent : ℕ) : Type 0 where
   pub room : 96 ≤ lent
   pub sound : readingOf line ≡ Sound
-  pub outcome : stepOf c line lent ≡ requested c line
+  pub outcome : stepOf c line lent ≡ requested c line lent
 
 module _ (c : Condition) (line : List ℕ) (lent : ℕ) where
   -- without room for a reply
@@ -45,7 +48,7 @@ module _ (c : Condition) (line : List ℕ) (lent : ℕ) where
   short h = rw (lt-ltb lent 96 h)
 
   module _ (room : 96 ≤ lent) where
-    pub at-reading : (r : Reading) → readingOf line ≡ r → stepOf c line lent ≡ outcomeAfter c line r
+    pub at-reading : (r : Reading) → readingOf line ≡ r → stepOf c line lent ≡ outcomeAfter c line lent r
     unfolding stepOf
     at-reading r e = rw (le-ltb lent 96 room, e)
 
@@ -81,12 +84,12 @@ module _ (c : Condition) (line : List ℕ) (lent : ℕ) where
   pub asks : (k : Kind) → Heard c line lent → request line .kind ≡ k → Asks line lent k
   asks k h e = record { room = h .room; sound = none-applies line (h .sound); asked = e }
 
-  pub asked : (k : Kind) → Asks line lent k → stepOf c line lent ≡ outcomeBy c k (request line .hold) (request line .column)
+  pub asked : (k : Kind) → Asks line lent k → stepOf c line lent ≡ askedFor c line lent k
   asked k a =
       hears (a .room) (passes-all line (a .sound)) .outcome
-      ∙ ap (λ (k : Kind). outcomeBy c k (request line .hold) (request line .column)) (a .asked)
+      ∙ ap (askedFor c line lent) (a .asked)
 
-  pub code-of : (k : Kind) → Asks line lent k → stepOf c line lent .code ≡ outcomeBy c k (request line .hold) (request line .column) .code
+  pub code-of : (k : Kind) → Asks line lent k → stepOf c line lent .code ≡ askedFor c line lent k .code
   code-of k a = ap (λ (o : Outcome). o .code) (asked k a)
 
   -- a line that is taken was heard, and has the outcome that it asks for
@@ -94,5 +97,5 @@ module _ (c : Condition) (line : List ℕ) (lent : ℕ) where
   unfolding isOneOf
   taken-asks k e z = asks k (heard 0 z refl) e
 
-  pub taken-as : (k : Kind) → request line .kind ≡ k → stepOf c line lent .code ≡ 0 → stepOf c line lent ≡ outcomeBy c k (request line .hold) (request line .column)
+  pub taken-as : (k : Kind) → request line .kind ≡ k → stepOf c line lent .code ≡ 0 → stepOf c line lent ≡ askedFor c line lent k
   taken-as k e z = asked k (taken-asks k e z)

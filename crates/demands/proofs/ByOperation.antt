@@ -8,15 +8,16 @@ use native.Mathlib.Omega.{arith}
 use native.Mathlib.Nat.{lt-of-not-le}
 use native.Mathlib.Decide.{decLe}
 use lib.Dec.{eqb}
-use borrow.Author.Tests.{eqb-true, not-true}
+use borrow.Author.Tests.{eqb-true, not-true, lt-ltb, le-ltb}
 use Rattle.whole.specs.Lists.{all, isOneOf}
 use Rattle.whole.proofs.Lists.{clash, and-true}
 use Rattle.line_codes.specs.declared.Reading.{Reading}
 use Rattle.line_codes.specs.declared.Reading.the-variants.{Sound, TooLong, BadByte, NotOneForm, BadNumber}
+use Rattle.text.specs.Token.{tokens}
 use Rattle.line_codes.specs.Line.{readingOf, readingCode}
 use Rattle.line_codes.proofs.Codes.{line-code}
 use Rattle.request.specs.declared.Kind.{Kind}
-use Rattle.request.specs.declared.Kind.the-variants.{ShipLine, ColumnLine, LoadLine, HoldLine, DropLine, JudgeLine, ClearLine, NoShape}
+use Rattle.request.specs.declared.Kind.the-variants.{ShipLine, ColumnLine, LoadLine, HoldLine, DropLine, JudgeLine, ClearLine, ShowLine, NoShape}
 use Rattle.condition.specs.declared.Condition.{Condition}
 use Rattle.judging.specs.declared.Judged.{Judged}
 use Rattle.judging.specs.declared.Judged.the-variants.{Refused, Given}
@@ -46,7 +47,21 @@ only-no-shape (HoldLine n) e = cc
 only-no-shape (DropLine n) e = cc
 only-no-shape JudgeLine e = cc
 only-no-shape ClearLine e = cc
+only-no-shape ShowLine e = cc
 only-no-shape NoShape e = cc
+
+-- and 16 where it is a show
+only-show : (k : Kind) → isOneOf (codesOf k) 16 ≡ true → k ≡ ShowLine
+unfolding isOneOf
+only-show (ShipLine s) e = cc
+only-show ColumnLine e = cc
+only-show (LoadLine l) e = cc
+only-show (HoldLine n) e = cc
+only-show (DropLine n) e = cc
+only-show JudgeLine e = cc
+only-show ClearLine e = cc
+only-show ShowLine e = cc
+only-show NoShape e = cc
 
 -- no request has a code that is given before it is looked at
 apart : (ms : List ℕ) (n : ℕ) → all (λ m. not (isOneOf early m)) ms ≡ true → isOneOf ms n ≡ true → isOneOf early n ≡ false
@@ -75,8 +90,8 @@ module _ (c : Condition) (line : List ℕ) (lent : ℕ) where
     unfolding all isOneOf
     by-reading Sound e n t g =
         let o = hears c line lent room e .outcome in
-        let l = request-code c (request line .kind) (request line .hold) (request line .column) in
-        let a = apart requestCodes (requested c line .code) refl l in
+        let l = request-code c (tokens line) lent (request line .kind) (request line .hold) (request line .column) in
+        let a = apart requestCodes (requested c line lent .code) refl l in
         let b : isOneOf early n ≡ false = rw (sym (ap (λ (o : Outcome). o .code) o) ∙ g) at a in
         clash (sym b ∙ t)
     by-reading TooLong e n t g = sym (to-reading TooLong e (omega arith)) ∙ g
@@ -125,13 +140,34 @@ module _ (c : Condition) (line : List ℕ) (lent : ℕ) where
         thirteen = with-room 13 refl (omega arith) (λ z. omega arith) (l .thirteen);
       }
 
+  -- a code that only one kind of request has
+  one-kind : (n : ℕ) (k : Kind) → isOneOf early n ≡ false → ((k′ : Kind) → isOneOf (codesOf k′) n ≡ true → k′ ≡ k) → given ≡ n → Asks line lent k
+  one-kind n k late only e =
+      let h = heard c line lent n e late in
+      let z : requested c line lent .code ≡ n = ap (λ (o : Outcome). o .code) (sym (h .outcome)) ∙ e in
+      let l = right-by c (tokens line) lent (request line .kind) (request line .hold) (request line .column) .listed in
+      asks c line lent k h (only (request line .kind) (rw z at l))
+
   no-shape : given ≡ 14 → Asks line lent NoShape
   unfolding isOneOf
-  no-shape e =
-      let h = heard c line lent 14 e refl in
-      let z : requested c line .code ≡ 14 = ap (λ (o : Outcome). o .code) (sym (h .outcome)) ∙ e in
-      let l = right-by c (request line .kind) (request line .hold) (request line .column) .listed in
-      asks c line lent NoShape h (only-no-shape (request line .kind) (rw z at l))
+  no-shape = one-kind 14 NoShape refl only-no-shape
+
+  -- show
+  show-short : Asks line lent ShowLine → lent < 2100 → given ≡ 16
+  show-short a h = code-of c line lent ShowLine a ∙ rw (lt-ltb lent 2100 h)
+
+  show-taken : Asks line lent ShowLine → 2100 ≤ lent → given ≡ 0
+  show-taken a h = code-of c line lent ShowLine a ∙ rw (le-ltb lent 2100 h)
+
+  sixteen : given ≡ 16 → Asks line lent ShowLine × (lent < 2100)
+  unfolding isOneOf
+  sixteen e =
+      let a = one-kind 16 ShowLine refl only-show e in
+      (a, by a (decLe 2100 lent))
+    where
+      by : Asks line lent ShowLine → Dec (2100 ≤ lent) → lent < 2100
+      by a (yes h) = absurd (omega (arith, show-taken a h))
+      by a (no h) = lt-of-not-le h
 
   -- ---- all of them
   by-operation : ByOperation c line lent given
@@ -146,6 +182,8 @@ module _ (c : Condition) (line : List ℕ) (lent : ℕ) where
         drop = λ n a. rw (code-of c line lent (DropLine n) a) (drop-codes c n);
         judge = λ w a. rw (code-of c line lent JudgeLine a, verdict-code c (judgedOf c)) (sound-codes c (within-sound c w));
         clear = λ a. code-of c line lent ClearLine a;
+        sixteen = (sixteen, λ (a, h). show-short a h);
+        show = show-taken;
       }
 
 pub codes-by-operation : CodesByOperation

@@ -13,7 +13,7 @@ use Rattle.grain.proofs.Totals.{sum-total}
 use Rattle.grain.proofs.Weights.{nothing-weighs}
 use Rattle.grain.proofs.Figures.{weight-moment}
 use Rattle.condition.specs.declared.Condition.{Condition}
-use Rattle.demands.specs.Within.{Within}
+use Rattle.sending.specs.Within.{Within}
 use Rattle.demands.specs.Demands.{WeightIsTotal}
 use Rattle.demands.proofs.Within.{hold-sound}
 

@@ -26,7 +26,7 @@ use Rattle.stability.proofs.Shown.{sizes}
 use Rattle.judging.specs.Complete.{Complete}
 use Rattle.judging.proofs.Judging.{ready-around, ready-judged}
 use Rattle.storing.proofs.Columns.{held-length}
-use Rattle.demands.specs.Within.{Within}
+use Rattle.sending.specs.Within.{Within}
 use Rattle.demands.specs.Demands.{VerdictsHold}
 use Rattle.demands.proofs.Asked.{asked}
 use Rattle.demands.proofs.Within.{within-sound}

@@ -2,16 +2,18 @@
 use Rattle.line_codes.proofs.Decimals.{number-is}
 use Rattle.reply.proofs.Shown.{at-front}
 use Rattle.condition.proofs.Empty.{starts-empty}
+use Rattle.sending.proofs.Sending.{records-can-be-sent}
 use Rattle.stability.proofs.Covers.{every-angle}
 use Rattle.demands.specs.Demands.{Demands}
 use Rattle.demands.proofs.ByOperation.{codes-by-operation}
 use Rattle.demands.proofs.Demand1.{codes-are-printed, refusals-change-nothing, clear-starts-anew}
 use Rattle.demands.proofs.Stored.{records-are-stored, replies-show-the-code}
+use Rattle.demands.proofs.Show.{shows-a-form, shows-the-form}
 use Rattle.demands.proofs.Spaces.{spaces-are-free}
 use Rattle.demands.proofs.Demand2.{weight-is-total}
 use Rattle.demands.proofs.Demand3.{verdicts-hold}
 use Rattle.demands.proofs.Reached.{reached-are-within, ranges-are-within}
-use Rattle.demands.proofs.Runs.{first-run, second-run}
+use Rattle.demands.proofs.Runs.{first-run, second-run, show-run}
 
 pub demands : Demands
 demands =
@@ -26,6 +28,10 @@ demands =
       clearStartsAnew = clear-starts-anew;
       firstRun = first-run;
       secondRun = second-run;
+      showsAForm = shows-a-form;
+      showsTheForm = shows-the-form;
+      showRun = show-run;
+      recordsCanBeSent = records-can-be-sent;
       spacesAreFree = spaces-are-free;
       numbersAreRead = number-is;
       weightIsTotal = weight-is-total;

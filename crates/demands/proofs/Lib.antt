@@ -2,6 +2,8 @@ pub mod Asked
 pub mod Demand1
 pub mod ByOperation
 pub mod Stored
+pub mod Around
+pub mod Show
 pub mod Spaces
 pub mod Sequence
 pub mod Within

@@ -23,22 +23,22 @@ use Rattle.grain.proofs.Figures.{hold-fits}
 use Rattle.limits.specs.Limits.{shipLimits, loadLimits, placeLimits}
 use Rattle.record.specs.Held.{held}
 use Rattle.columns.specs.Columns.{isAbove, columnAnswer, withColumn}
-use Rattle.text.specs.Token.{tokens}
+use Rattle.text.specs.Token.{Token, tokens}
 use Rattle.request.specs.declared.Kind.{Kind}
-use Rattle.request.specs.declared.Kind.the-variants.{ShipLine, ColumnLine, LoadLine, HoldLine, DropLine, JudgeLine, ClearLine, NoShape}
+use Rattle.request.specs.declared.Kind.the-variants.{ShipLine, ColumnLine, LoadLine, HoldLine, DropLine, JudgeLine, ClearLine, ShowLine, NoShape}
 use Rattle.request.proofs.Lengths.{hold-places, cell-places, column-values}
 use Rattle.condition.specs.declared.Condition.{Condition}
 use Rattle.condition.specs.Condition.{empty, isHeld}
 use Rattle.judging.specs.Judge.{judgedOf}
 use Rattle.panel.specs.Step.{outcomeBy, stepOf, Sent, conditionAfter}
-use Rattle.demands.specs.Within.{Within, ColumnsTaken}
+use Rattle.sending.specs.Within.{Within, ColumnsTaken}
 use Rattle.demands.specs.Codes.{request}
 use Rattle.demands.specs.Demands.{ReachedAreWithin, RangesAreWithin}
 use Rattle.storing.proofs.Taking.{place-within}
 use Rattle.demands.proofs.Asked.{taken-as}
 use Rattle.operations.proofs.Effects.{HoldPassed, ship-passed, ship-taken, load-passed, load-taken, column-passed, column-taken, hold-passed, hold-taken, drop-passed, drop-taken}
 use Rattle.storing.proofs.Columns.{Fitting, fitting-more, held-more, below-twenty}
-use Rattle.panel.proofs.Effects.{judge-same}
+use Rattle.panel.proofs.Effects.{judge-same, show-same}
 use Rattle.demands.proofs.Sequence.{taken-more}
 use Rattle.demands.proofs.Demand1.{refusals-change-nothing}
 
@@ -130,30 +130,31 @@ put-column cs k g ten e =
 
 -- ---- each line that is taken
 module _ (c : Condition) (g : Good c) where
-  good-by : (k : Kind) (h : Hold) (col : Column) → SizedHold h → length (col .kn) ≡ 10 → outcomeBy c k h col .code ≡ 0 → Good (outcomeBy c k h col .after)
-  good-by (ShipLine s) h col sh sc e =
+  good-by : (ts : List Token) (lent : ℕ) (k : Kind) (h : Hold) (col : Column) → SizedHold h → length (col .kn) ≡ 10 → outcomeBy c ts lent k h col .code ≡ 0 → Good (outcomeBy c ts lent k h col .after)
+  good-by ts lent (ShipLine s) h col sh sc e =
       let p = ship-passed c s e in
       rw (ship-taken c s p) (record { ship = λ t. p; load = g .load; columns = g .columns; holds = g .holds })
-  good-by ColumnLine h col sh sc e =
+  good-by ts lent ColumnLine h col sh sc e =
       let p = column-passed c col e in
       rw (column-taken c col p)
       (record { ship = g .ship; load = g .load; columns = put-column (c .columns) col (g .columns) sc p; holds = g .holds })
-  good-by (LoadLine l) h col sh sc e =
+  good-by ts lent (LoadLine l) h col sh sc e =
       let p = load-passed c l e in
       rw (load-taken c l p) (record { ship = g .ship; load = λ t. p; columns = g .columns; holds = g .holds })
-  good-by (HoldLine n) h col sh sc e =
+  good-by ts lent (HoldLine n) h col sh sc e =
       let p = hold-passed c n h e in
       let same : n - 1 + 1 ≡ n = omega (arith, place-within n (p .place) .0) in
       let new : GoodHold (n - 1) h = record { sized = sh; passed = λ t. rw same p } in
       rw (hold-taken c n h p)
       (record { ship = g .ship; load = g .load; columns = g .columns; holds = put-hold (c .holds) n h (g .holds) (p .place) new })
-  good-by (DropLine n) h col sh sc e =
+  good-by ts lent (DropLine n) h col sh sc e =
       let p = drop-passed c n e in
       rw (drop-taken c n (p .0) (p .1))
       (record { ship = g .ship; load = g .load; columns = g .columns; holds = put-hold (c .holds) n noHold (g .holds) (p .0) (no-hold (n - 1)) })
-  good-by JudgeLine h col sh sc e = rw (judge-same c (judgedOf c)) g
-  good-by ClearLine h col sh sc e = good-empty
-  good-by NoShape h col sh sc e = absurd (omega arith)
+  good-by ts lent JudgeLine h col sh sc e = rw (judge-same c (judgedOf c)) g
+  good-by ts lent ClearLine h col sh sc e = good-empty
+  good-by ts lent ShowLine h col sh sc e = rw (show-same c ts lent) g
+  good-by ts lent NoShape h col sh sc e = absurd (omega arith)
 
   -- any line
   module _ (line : List ℕ) (lent : ℕ) where
@@ -161,7 +162,7 @@ module _ (c : Condition) (g : Good c) where
     good-taken e =
         let o = taken-as c line lent (request line .kind) refl e in
         let s : SizedHold (request line .hold) = record { parts = hold-places (tokens line); cells = cell-places (tokens line) } in
-        rw o (good-by (request line .kind) (request line .hold) (request line .column) s (column-values (tokens line)) (rw o at e))
+        rw o (good-by (tokens line) lent (request line .kind) (request line .hold) (request line .column) s (column-values (tokens line)) (rw o at e))
 
     good-code : (x : Bool) → eqb (stepOf c line lent .code) 0 ≡ x → Good (stepOf c line lent .after)
     good-code true e = good-taken (eqb-true (stepOf c line lent .code) 0 e)

@@ -13,7 +13,7 @@ use Rattle.columns.specs.Columns.{isAbove, columnAnswer, inOrder, withColumn}
 use Rattle.condition.specs.declared.Condition.{Condition}
 use Rattle.storing.specs.Storing.{withColumns}
 use Rattle.operations.specs.Operations.{columnOperation}
-use Rattle.demands.specs.Within.{ColumnsTaken}
+use Rattle.sending.specs.Within.{ColumnsTaken}
 use Rattle.storing.proofs.Taking.{taken-is}
 use Rattle.operations.proofs.Effects.{column-passed, column-taken}
 use Rattle.storing.proofs.Columns.{Fitting, fitting-more, held-more}

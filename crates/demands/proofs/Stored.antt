@@ -4,17 +4,19 @@ use mathlib.Core.Bool.{true}
 use mathlib.Core.List.{List}
 use Prim.Native.Nat.{ℕ, _≤_}
 use native.Mathlib.Omega.{arith}
+use native.Mathlib.Nat.{lt-of-not-le}
+use native.Mathlib.Decide.{decLe}
+use borrow.Author.Tests.{lt-ltb}
 use Rattle.whole.specs.Lists.{isOneOf}
-use Rattle.record.specs.declared.Column.{Column}
-use Rattle.record.specs.declared.Hold.{Hold}
 use Rattle.stability.specs.declared.Judgement.{Judgement}
 use Rattle.stability.specs.declared.Judgement.the-variants.{Passed, ShortOfGm, ShortAtHeel, ShortBeyond, ShortOfArea}
 use Rattle.stability.specs.Verdict.{judgementCode, verdictOf}
 use Rattle.line_codes.specs.declared.Reading.{Reading}
 use Rattle.line_codes.specs.declared.Reading.the-variants.{Sound, TooLong, BadByte, NotOneForm, BadNumber}
+use Rattle.text.specs.Token.{tokens}
 use Rattle.line_codes.specs.Line.{readingOf}
 use Rattle.request.specs.declared.Kind.{Kind}
-use Rattle.request.specs.declared.Kind.the-variants.{ShipLine, ColumnLine, LoadLine, HoldLine, DropLine, JudgeLine, ClearLine, NoShape}
+use Rattle.request.specs.declared.Kind.the-variants.{ShipLine, ColumnLine, LoadLine, HoldLine, DropLine, JudgeLine, ClearLine, ShowLine, NoShape}
 use Rattle.reply.specs.Replies.{answerReply}
 use Rattle.reply.specs.Shown.{RefusalShown}
 use Rattle.reply.proofs.Shown.{answer-shown, refusal-shown}
@@ -24,29 +26,23 @@ use Rattle.judging.specs.declared.Judged.{Judged}
 use Rattle.judging.specs.Judge.{basisAt, judgedOf}
 use Rattle.judging.proofs.Shown.{refusals, judged-by}
 use Rattle.operations.proofs.Stores.{ship-stored, load-stored, column-stored, hold-stored, hold-dropped}
-use Rattle.panel.specs.Step.{Outcome, verdictGiven, outcomeBy, stepOf}
-use Rattle.panel.proofs.Effects.{judge-same}
+use Rattle.panel.specs.Step.{Outcome, verdictGiven, formShown, stepOf}
+use Rattle.panel.proofs.Effects.{judge-same, show-same}
 use Rattle.demands.specs.Codes.{request, Asks}
 use Rattle.demands.specs.Demands.{Stores, RecordsAreStored, RepliesShowTheCode}
-use Rattle.demands.proofs.Asked.{none-applies, short, at-reading, hears, asked, taken-as}
+use Rattle.demands.proofs.Asked.{askedFor, none-applies, short, at-reading, hears, asked, taken-as}
 
 module _ (c : Condition) (line : List ℕ) (lent : ℕ) where
-  abbrev hold : Hold
-  hold = request line .hold
-
-  abbrev column : Column
-  column = request line .column
-
   -- ---- what is stored
   module _ (zero : stepOf c line lent .code ≡ 0) where
     module _ (k : Kind) (e : request line .kind ≡ k) where
-      done : stepOf c line lent ≡ outcomeBy c k hold column
+      done : stepOf c line lent ≡ askedFor c line lent k
       done = taken-as c line lent k e zero
 
-      own : outcomeBy c k hold column .code ≡ 0
+      own : askedFor c line lent k .code ≡ 0
       own = ap (λ (o : Outcome). o .code) (sym done) ∙ zero
 
-      after : stepOf c line lent .after ≡ outcomeBy c k hold column .after
+      after : stepOf c line lent .after ≡ askedFor c line lent k .after
       after = ap (λ (o : Outcome). o .after) done
 
     stores : Stores c line (stepOf c line lent .after)
@@ -54,19 +50,20 @@ module _ (c : Condition) (line : List ℕ) (lent : ℕ) where
         record {
           ship = λ s e. rw (after (ShipLine s) e) (ship-stored c s (own (ShipLine s) e));
           load = λ l e. rw (after (LoadLine l) e) (load-stored c l (own (LoadLine l) e));
-          column = λ e. rw (after ColumnLine e) (column-stored c column (own ColumnLine e));
-          hold = λ n e. rw (after (HoldLine n) e) (hold-stored c n hold (own (HoldLine n) e));
+          column = λ e. rw (after ColumnLine e) (column-stored c (request line .column) (own ColumnLine e));
+          hold = λ n e. rw (after (HoldLine n) e) (hold-stored c n (request line .hold) (own (HoldLine n) e));
           drop = λ n e. rw (after (DropLine n) e) (hold-dropped c n (own (DropLine n) e));
           judge = λ e. after JudgeLine e ∙ judge-same c (judgedOf c);
           clear = λ e. rw (after ClearLine e) starts-empty;
+          show = λ e. after ShowLine e ∙ show-same c (tokens line) lent;
         }
 
-  -- ---- the reply of every line but a judge line
-  module _ (room : 96 ≤ lent) (other : Asks line lent JudgeLine → ⊥) where
+  -- ---- the reply of every line but judge and a show with room for its reply
+  module _ (room : 96 ≤ lent) (other : Asks line lent JudgeLine → ⊥) (unshown : Asks line lent ShowLine → 2100 ≤ lent → ⊥) where
     abbrev Answered : Outcome → Type 0
     Answered o = o .reply ≡ answerReply (o .code)
 
-    answered-kind : readingOf line ≡ Sound → (k : Kind) → request line .kind ≡ k → Answered (outcomeBy c k hold column)
+    answered-kind : readingOf line ≡ Sound → (k : Kind) → request line .kind ≡ k → Answered (askedFor c line lent k)
     answered-kind s (ShipLine x) e = refl
     answered-kind s ColumnLine e = refl
     answered-kind s (LoadLine l) e = refl
@@ -74,6 +71,11 @@ module _ (c : Condition) (line : List ℕ) (lent : ℕ) where
     answered-kind s (DropLine n) e = refl
     answered-kind s JudgeLine e = absurd (other (record { room = room; sound = none-applies line s; asked = e }))
     answered-kind s ClearLine e = refl
+    answered-kind s ShowLine e = by (decLe 2100 lent)
+      where
+        by : Dec (2100 ≤ lent) → Answered (formShown c (tokens line) lent)
+        by (yes h) = absurd (unshown (record { room = room; sound = none-applies line s; asked = e }) h)
+        by (no h) = rw (lt-ltb lent 2100 (lt-of-not-le h))
     answered-kind s NoShape e = refl
 
     answered-by : (r : Reading) → readingOf line ≡ r → Answered (stepOf c line lent)
@@ -108,5 +110,5 @@ replies-show-the-code c line lent =
     record {
       short = λ h. rw (short c line lent h);
       judge = λ a. rw (asked c line lent JudgeLine a) (judge-shows c);
-      other = λ room other. rw (answered-by c line lent room other (readingOf line) refl) (answer-shown (stepOf c line lent .code));
+      other = λ room other unshown. rw (answered-by c line lent room other unshown (readingOf line) refl) (answer-shown (stepOf c line lent .code));
     }

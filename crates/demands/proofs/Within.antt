@@ -11,7 +11,7 @@ use Rattle.condition.specs.declared.Condition.{Condition}
 use Rattle.condition.specs.Condition.{empty, isHeld}
 use Rattle.judging.proofs.Judging.{holds-sound, LimitsMet}
 use Rattle.operations.proofs.Effects.{HoldPassed, ship-passed, load-passed, hold-passed}
-use Rattle.demands.specs.Within.{Within}
+use Rattle.sending.specs.Within.{Within}
 use Rattle.demands.proofs.Sequence.{taken-order}
 
 module _ (c : Condition) (w : Within c) where

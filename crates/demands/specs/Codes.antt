@@ -1,4 +1,4 @@
--- Document 01, Codes, by operation, in its own words and numbers: where each code is given, both ways. What a code of an operation says
+-- Documents 01 and 02, Codes, by operation, in their own words and numbers: where each code is given, both ways. What a code of an operation says
 -- stands in operations/specs/Codes.antt and judging/specs/Codes.antt; demand 3 says the same of 00 and 40 to 43 for judge.
 use mathlib.Core.Path.{_≡_}
 use mathlib.Core.List.{List}
@@ -10,15 +10,15 @@ use Rattle.record.specs.declared.Load.{Load}
 use Rattle.record.specs.Held.{held}
 use Rattle.limits.specs.Ranges.{ShipRange, LoadRange}
 use Rattle.text.specs.Token.{tokens}
-use Rattle.line_codes.specs.Codes.{OtherByte, AllAllowed, OneForm, NoNumber}
+use Rattle.line_codes.specs.Codes.{OtherByte, AllAllowed, Nested, NoNumber}
 use Rattle.request.specs.declared.Kind.{Kind}
-use Rattle.request.specs.declared.Kind.the-variants.{ShipLine, ColumnLine, LoadLine, HoldLine, DropLine, JudgeLine, ClearLine, NoShape}
+use Rattle.request.specs.declared.Kind.the-variants.{ShipLine, ColumnLine, LoadLine, HoldLine, DropLine, JudgeLine, ClearLine, ShowLine, NoShape}
 use Rattle.request.specs.declared.Request.{Request}
 use Rattle.request.specs.Shape.{requestOf}
 use Rattle.condition.specs.declared.Condition.{Condition}
 use Rattle.judging.specs.Codes.{JudgeCodes}
 use Rattle.operations.specs.Codes.{LimitCodes, ColumnCodes, HoldCodes, DropCodes}
-use Rattle.demands.specs.Within.{Within}
+use Rattle.sending.specs.Within.{Within}
 
 -- ---- what a line asks for
 
@@ -28,7 +28,7 @@ request line = requestOf (tokens line)
 
 -- none of 10 to 13 applies
 abbrev pub SoundLine : List ℕ → Type 0
-SoundLine line = (length line ≤ 2000) × AllAllowed line × OneForm 4 line × (NoNumber line → ⊥)
+SoundLine line = (length line ≤ 2000) × AllAllowed line × Nested line × (NoNumber line → ⊥)
 
 -- a line with room for its reply, to which none of 10 to 13 applies, asks for what its form says
 pub record Asks (line : List ℕ) (lent : ℕ) (kind : Kind) : Type 0 where
@@ -41,8 +41,8 @@ pub record EveryLine (line : List ℕ) (lent code : ℕ) : Type 0 where
   pub fifteen : (code ≡ 15) ↔ (lent < 96)
   pub ten : (code ≡ 10) ↔ ((96 ≤ lent) × (2000 < length line))
   pub eleven : (code ≡ 11) ↔ ((96 ≤ lent) × ((length line ≤ 2000) × OtherByte line))
-  pub twelve : (code ≡ 12) ↔ ((96 ≤ lent) × ((length line ≤ 2000) × AllAllowed line × (OneForm 4 line → ⊥)))
-  pub thirteen : (code ≡ 13) ↔ ((96 ≤ lent) × ((length line ≤ 2000) × AllAllowed line × OneForm 4 line × NoNumber line))
+  pub twelve : (code ≡ 12) ↔ ((96 ≤ lent) × ((length line ≤ 2000) × AllAllowed line × (Nested line → ⊥)))
+  pub thirteen : (code ≡ 13) ↔ ((96 ≤ lent) × ((length line ≤ 2000) × AllAllowed line × Nested line × NoNumber line))
 
 -- ---- all of them
 pub record ByOperation (c : Condition) (line : List ℕ) (lent code : ℕ) : Type 0 where
@@ -55,3 +55,6 @@ pub record ByOperation (c : Condition) (line : List ℕ) (lent code : ℕ) : Typ
   pub drop : (n : ℕ) → Asks line lent (DropLine n) → DropCodes c n code
   pub judge : Within c → Asks line lent JudgeLine → JudgeCodes c code
   pub clear : Asks line lent ClearLine → code ≡ 0
+  -- document 02, P2: 16 where fewer than 2,100 bytes are lent for a show line, tested after 14
+  pub sixteen : (code ≡ 16) ↔ (Asks line lent ShowLine × (lent < 2100))
+  pub show : Asks line lent ShowLine → 2100 ≤ lent → code ≡ 0

@@ -1,7 +1,7 @@
 -- The three demands (document 00), of the step of one line and of its repetition over any list of lines. Proved in
 -- proofs/Demands.antt. What each layer says by itself stands there: line_codes/specs/Codes.antt, limits/specs/Ranges.antt,
 -- cells/specs/Figures.antt, grain/specs/Figures.antt, stability/specs/Demand.antt, reply/specs/Shown.antt, judging/specs/Codes.antt,
--- operations/specs/Codes.antt, storing/specs/Stores.antt; the codes of a line in Codes.antt, the worked runs in Runs.antt.
+-- operations/specs/Codes.antt, storing/specs/Stores.antt; the codes of a line in Codes.antt, show in Show.antt, the worked runs in Runs.antt.
 use mathlib.Core.Path.{_≡_}
 use mathlib.Core.Bool.{true}
 use mathlib.Core.List.{List, [], _∷_, _++_}
@@ -22,7 +22,7 @@ use Rattle.stability.specs.Margins.{Margins}
 use Rattle.text.specs.declared.Number.the-variants.{Is}
 use Rattle.text.specs.Token.{numberOf}
 use Rattle.line_codes.specs.Codes.{LetterOrDigit, NumberIs}
-use Rattle.request.specs.declared.Kind.the-variants.{ShipLine, ColumnLine, LoadLine, HoldLine, DropLine, JudgeLine, ClearLine}
+use Rattle.request.specs.declared.Kind.the-variants.{ShipLine, ColumnLine, LoadLine, HoldLine, DropLine, JudgeLine, ClearLine, ShowLine}
 use Rattle.reply.specs.Written.{over}
 use Rattle.reply.specs.Shown.{AtFront, AnswerShown, RefusalShown, VerdictShown}
 use Rattle.condition.specs.declared.Condition.{Condition}
@@ -32,16 +32,18 @@ use Rattle.judging.specs.Judge.{weight}
 use Rattle.panel.specs.Step.{Outcome, stepOf, Sent, conditionAfter, outcomes}
 use Rattle.judging.specs.Complete.{Places, InRanges, Complete}
 use Rattle.storing.specs.Stores.{ShipStored, LoadStored, ColumnStored, HoldStored, HoldDropped}
-use Rattle.demands.specs.Within.{Within}
+use Rattle.sending.specs.Within.{Within}
+use Rattle.sending.specs.Laws.{RecordsCanBeSent}
 use Rattle.demands.specs.Codes.{request, Asks, ByOperation}
-use Rattle.demands.specs.Runs.{FirstRun, SecondRun}
+use Rattle.demands.specs.Show.{ShowsAForm, ShowsTheForm}
+use Rattle.demands.specs.Runs.{FirstRun, SecondRun, ShowRun}
 
 -- ---- Demand 1
 
 -- the printed list of codes
 abbrev pub printed : List ℕ
 printed =
-    0 ∷ 10 ∷ 11 ∷ 12 ∷ 13 ∷ 14 ∷ 15 ∷ 20 ∷ 21 ∷ 22 ∷ 23 ∷ 24 ∷ 30 ∷ 31 ∷ 32 ∷ 33 ∷ 34 ∷ 40 ∷ 41 ∷ 42 ∷ 43 ∷ []
+    0 ∷ 10 ∷ 11 ∷ 12 ∷ 13 ∷ 14 ∷ 15 ∷ 16 ∷ 20 ∷ 21 ∷ 22 ∷ 23 ∷ 24 ∷ 30 ∷ 31 ∷ 32 ∷ 33 ∷ 34 ∷ 40 ∷ 41 ∷ 42 ∷ 43 ∷ []
 
 -- every line is answered with one code of the printed list
 abbrev pub CodesArePrinted : Type 0
@@ -65,17 +67,19 @@ pub record Stores (c : Condition) (line : List ℕ) (after : Condition) : Type 0
   pub drop : (n : ℕ) → request line .kind ≡ DropLine n → HoldDropped c n after
   pub judge : request line .kind ≡ JudgeLine → after ≡ c
   pub clear : request line .kind ≡ ClearLine → Nothing after
+  pub show : request line .kind ≡ ShowLine → after ≡ c
 
 abbrev pub RecordsAreStored : Type 0
 RecordsAreStored =
     (c : Condition) (line : List ℕ) (lent : ℕ) → stepOf c line lent .code ≡ 0 → Stores c line (stepOf c line lent .after)
 
--- the reply shows the code: none under 96 bytes; `(answer CC)` for every line but judge; `(verdict CC)` for judge with 30 to 34. What judge
--- shows with 00 and 40 to 43 is demand 3
+-- the reply shows the code: none under 96 bytes; `(answer CC)` for every line but judge and a show with room for its reply; `(verdict CC)`
+-- for judge with 30 to 34. What judge shows with 00 and 40 to 43 is demand 3; what show shows with 00 stands in Show.antt
 pub record Shows (line : List ℕ) (lent : ℕ) (o : Outcome) : Type 0 where
   pub short : lent < 96 → o .reply ≡ []
   pub judge : Asks line lent JudgeLine → isOneOf (30 ∷ 31 ∷ 32 ∷ 33 ∷ 34 ∷ []) (o .code) ≡ true → RefusalShown (o .code) (o .reply)
-  pub other : 96 ≤ lent → (Asks line lent JudgeLine → ⊥) → AnswerShown (o .code) (o .reply)
+  pub other :
+      96 ≤ lent → (Asks line lent JudgeLine → ⊥) → (Asks line lent ShowLine → 2100 ≤ lent → ⊥) → AnswerShown (o .code) (o .reply)
 
 abbrev pub RepliesShowTheCode : Type 0
 RepliesShowTheCode = (c : Condition) (line : List ℕ) (lent : ℕ) → Shows line lent (stepOf c line lent)
@@ -169,6 +173,11 @@ pub record Demands : Type 0 where
   pub clearStartsAnew : ClearStartsAnew
   pub firstRun : FirstRun
   pub secondRun : SecondRun
+  pub showsAForm : ShowsAForm
+  pub showsTheForm : ShowsTheForm
+  pub showRun : ShowRun
+  -- the records of a condition within its limits can be sent to an empty panel as lines in the one spelling (sending/specs/Laws.antt)
+  pub recordsCanBeSent : RecordsCanBeSent
   pub spacesAreFree : SpacesAreFree
   pub numbersAreRead : NumbersAreRead
   pub weightIsTotal : WeightIsTotal

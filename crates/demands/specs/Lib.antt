@@ -1,4 +1,4 @@
-pub mod Within
 pub mod Codes
+pub mod Show
 pub mod Runs
 pub mod Demands

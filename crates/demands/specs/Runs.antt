@@ -1,4 +1,4 @@
--- Two worked runs of a panel newly started, as computed claims about the definitions. The first is document 01's. The figures of the
+-- Worked runs of a panel newly started, as computed claims about the definitions. The first is document 01's. The figures of the
 -- second are chosen so that a slip in any rule of depths, shifted voids, weights, arms or verdict changes a reply, and so that two fields
 -- read in each other's place do (but VOID and GRAIN, which no figure takes, and EDGE under `old`): unlike columns with D between them;
 -- EDGE below 1,200 under `new`; an `old` ship with D 940, where the heeling arm at 1,200 is W itself, so that DIFF shows W to the unit;
@@ -16,12 +16,12 @@ use Rattle.grain.specs.Sum.{weightMoment}
 use Rattle.condition.specs.Condition.{empty}
 use Rattle.panel.specs.Step.{Outcome, Sent, conditionAfter, outcomes}
 
--- lines sent with a buffer of 96 bytes, and the replies to them
-abbrev pub sentWith96 : List String → List Sent
-sentWith96 ls = map (λ (s : String). record { line = bytes s; lent = 96 }) ls
+-- lines sent with a buffer of so many bytes, and the replies to them
+abbrev pub sentWith : ℕ → List String → List Sent
+sentWith lent ls = map (λ (s : String). record { line = bytes s; lent = lent }) ls
 
-abbrev pub replies : List String → List (List ℕ)
-replies ls = map (λ (o : Outcome). o .reply) (outcomes empty (sentWith96 ls))
+abbrev pub replies : ℕ → List String → List (List ℕ)
+replies lent ls = map (λ (o : Outcome). o .reply) (outcomes empty (sentWith lent ls))
 
 -- document 01's whole input, a drop, a clear and a judge behind it
 abbrev pub first : List String
@@ -41,7 +41,7 @@ first =
 -- the replies, and the weight moments of holds 1 and 2
 abbrev pub FirstRun : Type 0
 FirstRun =
-    (replies first
+    (replies 96 first
     ≡ map bytes
     ("(answer 00)\n"
     ∷ "(answer 00)\n"
@@ -54,7 +54,7 @@ FirstRun =
     ∷ "(answer 00)\n"
     ∷ "(verdict 30)\n"
     ∷ []))
-    × (map weightMoment (take 2 (conditionAfter empty (sentWith96 (take 6 first)) .holds)) ≡ 118548 ∷ 601653 ∷ [])
+    × (map weightMoment (take 2 (conditionAfter empty (sentWith 96 (take 6 first)) .holds)) ≡ 118548 ∷ 601653 ∷ [])
 
 abbrev pub second : List String
 second =
@@ -86,7 +86,7 @@ second =
 
 abbrev pub SecondRun : Type 0
 SecondRun =
-    replies second
+    replies 96 second
     ≡ map bytes
     ("(answer 00)\n"
     ∷ "(answer 00)\n"
@@ -113,3 +113,56 @@ SecondRun =
     ∷ "(answer 00)\n"
     ∷ "(verdict 00 1998560 1349085 1477 1447262434)\n"
     ∷ [])
+
+-- show: each form that it takes and each that it does not, five deep behind `show` alone, numbers as they are written, nothing stored
+abbrev pub shows : List String
+shows =
+    "(show(ship new 1430 3500))"
+    ∷ "( show ( column 1 2( 0 1  2 3 4 5 6 7 8 999999999 ) ) )"
+    ∷ "(show (load 65536 65536 65536))"
+    ∷ "  (show(hold 99 trimmed 1(part 1(wing 1 2 3 4)(hatch 1 2 3))(part 70000(void 1 2 3))))  "
+    ∷ "(show (hold 1 partial 2 (part 3 4 5 6)))"
+    ∷ "(show (drop 99))"
+    ∷ "(show (judge))"
+    ∷ "(show (clear))"
+    ∷ "(show (show (judge)))"
+    ∷ "(show)"
+    ∷ "(show (judge) (judge))"
+    ∷ "(show (part 3 4 5 6))"
+    ∷ "(show judge)"
+    ∷ "(show (drop))"
+    ∷ "(show (a (b (c (d)))))"
+    ∷ "(show (a (b (c (01)))))"
+    ∷ "(show (a (b (c (d (e))))))"
+    ∷ "(shown (a (b (c (d)))))"
+    ∷ "((show (a (b (c)))))"
+    ∷ "(judge)"
+    ∷ []
+
+-- the replies; and with one byte less than 2,100 lent: 16, but behind 14
+abbrev pub ShowRun : Type 0
+ShowRun =
+    (replies 2100 shows
+    ≡ map bytes
+    ("(ship new 1430 3500)\n"
+    ∷ "(column 1 2 (0 1 2 3 4 5 6 7 8 999999999))\n"
+    ∷ "(load 65536 65536 65536)\n"
+    ∷ "(hold 99 trimmed 1 (part 1 (wing 1 2 3 4) (hatch 1 2 3)) (part 70000 (void 1 2 3)))\n"
+    ∷ "(hold 1 partial 2 (part 3 4 5 6))\n"
+    ∷ "(drop 99)\n"
+    ∷ "(judge)\n"
+    ∷ "(clear)\n"
+    ∷ "(answer 14)\n"
+    ∷ "(answer 14)\n"
+    ∷ "(answer 14)\n"
+    ∷ "(answer 14)\n"
+    ∷ "(answer 14)\n"
+    ∷ "(answer 14)\n"
+    ∷ "(answer 14)\n"
+    ∷ "(answer 13)\n"
+    ∷ "(answer 12)\n"
+    ∷ "(answer 12)\n"
+    ∷ "(answer 12)\n"
+    ∷ "(verdict 30)\n"
+    ∷ []))
+    × (replies 2099 ("(show (judge))" ∷ "(show)" ∷ []) ≡ map bytes ("(answer 16)\n" ∷ "(answer 14)\n" ∷ []))

@@ -9,7 +9,7 @@ use Rattle.record.specs.Filler.{noHold}
 use Rattle.limits.specs.Limits.{placeLimits}
 use Rattle.columns.specs.Columns.{withColumn}
 use Rattle.request.specs.declared.Kind.{Kind}
-use Rattle.request.specs.declared.Kind.the-variants.{ShipLine, ColumnLine, LoadLine, HoldLine, DropLine, JudgeLine, ClearLine, NoShape}
+use Rattle.request.specs.declared.Kind.the-variants.{ShipLine, ColumnLine, LoadLine, HoldLine, DropLine, JudgeLine, ClearLine, ShowLine, NoShape}
 use Rattle.request.specs.declared.Request.{Request}
 use Rattle.condition.specs.declared.Condition.{Condition}
 use Rattle.condition.specs.Condition.{empty}
@@ -25,6 +25,7 @@ effectBy c (HoldLine n) h k = cond (placeLimits n) (withHold c n h) c
 effectBy c (DropLine n) h k = cond (placeLimits n) (withHold c n noHold) c
 effectBy c JudgeLine h k = c
 effectBy c ClearLine h k = empty
+effectBy c ShowLine h k = c
 effectBy c NoShape h k = c
 
 unfoldable pub effectOf : Condition → Request → Condition

@@ -21,6 +21,7 @@ pub fn effect(c: Condition, r: Request) -> Condition
         Kind::DropLine(n) => storing::with_hold(c, n, record::no_hold()),
         Kind::JudgeLine => c,
         Kind::ClearLine => condition::empty_condition(),
+        Kind::ShowLine => c,
         Kind::NoShape => c,
     }
 }

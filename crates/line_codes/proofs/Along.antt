@@ -3,7 +3,6 @@ use mathlib.Core.Path.{_≡_, refl, _∙_, ap}
 use mathlib.Core.Bool.{Bool, true, false}
 use mathlib.Core.List.{List, [], _∷_}
 use Prim.Native.Nat.{ℕ}
-use native.Mathlib.Omega.{arith}
 use lib.ListN.{take, drop}
 use borrow.Author.Tests.{ne-eqb}
 use Rattle.whole.specs.Lists.{all, within}
@@ -11,6 +10,7 @@ use Rattle.whole.proofs.Lists.{and-true}
 use Rattle.text.specs.Token.{allowed, inRun, Token, opened, closed, run, startsRun, tokens, runLength}
 use Rattle.text.proofs.Parts.{tokens-opening, tokens-closing, tokens-space, tokens-last, tokens-more}
 use Rattle.text.proofs.Runs.{run-token}
+use Rattle.text.proofs.Sorts.{not-in-run}
 use Rattle.line_codes.specs.Line.{Stand, before, inside, behind, wrong, further, walked, oneForm}
 use Rattle.line_codes.specs.Codes.{Allowed, opening, closing, space, ofRun}
 use Rattle.line_codes.proofs.Bytes.{in-run, may-stand}
@@ -37,11 +37,6 @@ over-space most before = refl
 over-space most (inside n) = refl
 over-space most behind = refl
 over-space most wrong = refl
-
--- no byte of a run is a byte of none
-pub not-in-run : (b k : ℕ) → inRun b ≡ true → inRun k ≡ false → b ≡ k → ⊥
-not-in-run b k e f g =
-    let z : _≡_ {A = ℕ} 0 1 = cc in omega arith
 
 over-run : (most : ℕ) (p : Stand) (b : ℕ) → inRun b ≡ true → further most p b ≡ overRun p
 unfolding within

@@ -4,12 +4,11 @@ use mathlib.Core.Bool.{Bool, true, false, _&&_, _||_}
 use mathlib.Core.List.{List, [], _∷_}
 use Prim.Native.Nat.{ℕ, suc}
 use native.Mathlib.Omega.{arith}
-use lib.Dec.{eqb}
 use lib.ListN.{getD}
-use borrow.Author.Tests.{eqb-true}
 use Rattle.whole.specs.Lists.{within, all}
 use Rattle.whole.proofs.Lists.{within-true, within-by, all-at}
 use Rattle.text.specs.Token.{isLetter, isDigit, inRun, allowed}
+use Rattle.text.proofs.Sorts.{Sort, isSpace, isOpening, isClosing, isOfRun, sort}
 use Rattle.line_codes.specs.Codes.{LetterOrDigit, letter, digit, Allowed, opening, closing, space, ofRun, AllAllowed, OtherByte}
 
 -- ---- letters and digits
@@ -33,17 +32,14 @@ no-run b e l =
     let z : _≡_ {A = ℕ} 0 1 = cc (in-run l) in omega arith
 
 -- ---- the bytes that a line may have
-one-of : (a b c d : Bool) (P : Type 0) → (a ≡ true → P) → (b ≡ true → P) → (c ≡ true → P) → (d ≡ true → P) → (a || b || c || d) ≡ true → P
-one-of true b c d P f g h k e = f refl
-one-of false true c d P f g h k e = g refl
-one-of false false true d P f g h k e = h refl
-one-of false false false true P f g h k e = k refl
-one-of false false false false P f g h k e =
-    let z : _≡_ {A = ℕ} 0 1 = cc in absurd (omega arith)
-
 pub may-stand : (b : ℕ) → allowed b ≡ true → Allowed b
-may-stand b e =
-    one-of (inRun b) (eqb b 32) (eqb b 40) (eqb b 41) (Allowed b) (λ p. ofRun (of-run b p)) (λ p. space (eqb-true b 32 p)) (λ p. opening (eqb-true b 40 p)) (λ p. closing (eqb-true b 41 p)) e
+may-stand b e = by (sort b e)
+  where
+    by : Sort b → Allowed b
+    by (isSpace p) = space p
+    by (isOpening p) = opening p
+    by (isClosing p) = closing p
+    by (isOfRun p) = ofRun (of-run b p)
 
 passes : (b : ℕ) → Allowed b → allowed b ≡ true
 unfolding within

@@ -3,31 +3,33 @@ use mathlib.Core.Path.{_≡_, refl, sym, _∙_, ap}
 use mathlib.Core.Bool.{true}
 use mathlib.Core.List.{List, [], _∷_, _++_}
 use Prim.Native.Nat.{ℕ, zero, suc, _<_}
-use lib.Dec.{eqb}
 use lib.ListN.{length, getD, take, drop, replicate, take-append-drop}
-use borrow.Author.Tests.{eqb-true}
 use Rattle.whole.specs.Bytes.{bytes}
 use Rattle.whole.specs.Lists.{all, within}
 use Rattle.whole.proofs.Lists.{clash, and-true}
-use Rattle.text.specs.Token.{allowed, startsRun, tokens, runLength, same}
+use Rattle.text.specs.Token.{allowed, opened, run, startsRun, tokens, runLength, same}
 use Rattle.text.proofs.Parts.{tokens-opening, tokens-closing, tokens-space, tokens-run}
-use Rattle.text.proofs.Runs.{run-token}
+use Rattle.text.proofs.Runs.{run-token, same-true}
 use Rattle.line_codes.specs.Line.{firstIsShow, isShow}
 use Rattle.line_codes.specs.Codes.{LetterOrDigit, Allowed, opening, closing, space, ofRun, BeginsWithShow}
 use Rattle.line_codes.proofs.Bytes.{in-run, may-stand}
 use Rattle.line_codes.proofs.Words.{run-stop, stops, starts-none}
 
 -- ---- from the bytes to the tokens
-over-spaces : (n : ℕ) (l : List ℕ) → tokens (replicate n 32 ++ l) ≡ tokens l
+pub over-spaces : (n : ℕ) (l : List ℕ) → tokens (replicate n 32 ++ l) ≡ tokens l
 over-spaces zero l = refl
 over-spaces (suc n) l = tokens-space (replicate n 32 ++ l) ∙ over-spaces n l
 
-pub shows : (s : List ℕ) → BeginsWithShow s → isShow (tokens s) ≡ true
-unfolding all within same
-shows s b =
+pub show-tokens : (s : List ℕ) (b : BeginsWithShow s) → tokens s ≡ opened ∷ run (bytes "show") ∷ tokens (b .behind)
+unfolding all within
+show-tokens s b =
     let word : List ℕ = 115 ∷ 104 ∷ 111 ∷ 119 ∷ b .behind in
     let t = tokens-run 115 (104 ∷ 111 ∷ 119 ∷ []) (b .behind) refl refl (starts-none (b .behind) (b .ends)) in
     rw (b .line, over-spaces (b .before) (40 ∷ (replicate (b .inside) 32 ++ word)), tokens-opening (replicate (b .inside) 32 ++ word), over-spaces (b .inside) word, t)
+
+pub shows : (s : List ℕ) → BeginsWithShow s → isShow (tokens s) ≡ true
+unfolding same
+shows s b = rw (show-tokens s b)
 
 -- ---- from the tokens to the bytes: what stands behind the opening bracket
 record Inside (s : List ℕ) : Type 0 where
@@ -35,15 +37,6 @@ record Inside (s : List ℕ) : Type 0 where
   behind : List ℕ
   line : s ≡ replicate count 32 ++ (115 ∷ 104 ∷ 111 ∷ 119 ∷ behind)
   ends : 0 < length behind → LetterOrDigit (getD behind 0 0) → ⊥
-
-same-true : (a b : List ℕ) → same a b ≡ true → a ≡ b
-unfolding same
-same-true [] [] e = refl
-same-true [] (y ∷ b) e = clash e
-same-true (x ∷ a) [] e = clash e
-same-true (x ∷ a) (y ∷ b) e =
-    let t = and-true (eqb x y) (same a b) e in
-    rw (eqb-true x y (t .0), same-true a b (t .1))
 
 word : (s : List ℕ) → startsRun s ≡ true → firstIsShow (tokens s) ≡ true → Inside s
 word s e f =

@@ -63,8 +63,8 @@ fed-line : (f r : Feed) (kept l waited waits : List ℕ) → 0 < f .left → kep
 fed-line f r kept l waited waits p e t =
     let a = take-all (f .left) (l ∷ []) (omega arith) in
     record {
-      condition = t .condition ∙ rw (e, short-line (f .cond) l 96, a) (sym (one-sent (f .cond) l));
-      replied = t .replied ∙ rw (e, short-line (f .cond) l 96, a, one-replied (f .cond) l);
+      condition = t .condition ∙ rw (e, short-line (f .cond) l 2100, a) (sym (one-sent (f .cond) l));
+      replied = t .replied ∙ rw (e, short-line (f .cond) l 2100, a, one-replied (f .cond) l);
       count = omega (arith, t .count);
     }
 

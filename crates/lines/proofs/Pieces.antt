@@ -30,8 +30,8 @@ taking-first f block at out h w n =
 module _ {f : Feed} {block : List ℕ} {at : ℕ} {out₀ : List ℕ} {r : Feed} {i : ℕ} {out : List ℕ} (s : TakingAt f block at out₀ r i out) where
   -- the line up to the next byte 10, at e
   pub taking-line : (e : ℕ) → e ≡ i + lineLength (drop i block) → e < length block → 0 < r .left → (g : Feed) (after : List ℕ) →
-      g .cond ≡ stepOf (r .cond) (between block i e) 96 .after → g .left ≡ r .left - 1 →
-      take (g .filled) after ≡ take (r .filled) out ++ stepOf (r .cond) (between block i e) 96 .reply → g .filled ≤ 65536 → length after ≡ 65536 → TakingAt f block at out₀ g (e + 1) after
+      g .cond ≡ stepOf (r .cond) (between block i e) 2100 .after → g .left ≡ r .left - 1 →
+      take (g .filled) after ≡ take (r .filled) out ++ stepOf (r .cond) (between block i e) 2100 .reply → g .filled ≤ 65536 → length after ≡ 65536 → TakingAt f block at out₀ g (e + 1) after
   taking-line e there h p g after c n w m l =
       let b = between-on block at i (e + 1) (s .onward) (omega arith) in
       record {
@@ -42,7 +42,7 @@ module _ {f : Feed} {block : List ℕ} {at : ℕ} {out₀ : List ℕ} {r : Feed}
         taken = rw (← b, line-with block i e there h) (taken-more {g = g} (s .taken) (between block i e) (line-uncut block i e there) p c n w);
       }
 
-  pub taking-ends : r .used ≡ f .used → (0 < r .left → r .filled + 96 ≤ 65536 → NoNewline (drop i block)) → FromBlock f block at out₀ (record { feed = r; at = i }) out
+  pub taking-ends : r .used ≡ f .used → (0 < r .left → r .filled + 2100 ≤ 65536 → NoNewline (drop i block)) → FromBlock f block at out₀ (record { feed = r; at = i }) out
   taking-ends u h =
       record { onward = s .onward; inside = s .inside; taken = s .taken; kept = u; room = s .room; stopped = h }
 
@@ -53,7 +53,7 @@ one-of (l ∷ []) b k e f g = let h : l ≡ k = cc in g (ap (λ (l : List ℕ). 
 one-of (l ∷ (m ∷ a)) b k e f g = absurd (omega (arith, ap length e))
 
 module _ (f : Feed) (kept block out after : List ℕ) (r : Taken) (same : block ≡ kept ++ 10 ∷ []) (t : FromBlock f block 0 out r after)
-    (room : f .filled + 96 ≤ 65536) (sized : length out ≡ 65536) (still : length after ≡ 65536) where
+    (room : f .filled + 2100 ≤ 65536) (sized : length out ≡ 65536) (still : length after ≡ 65536) where
   passed : List ℕ
   passed = between block 0 (r .at)
 
@@ -203,7 +203,7 @@ module _ {f : Feed} {line out block : List ℕ} {at : ℕ} {one : Taken} {line�
         }
 
     -- the replies fill their buffer
-    pub block-waits : f .filled + 96 ≤ 65536 → length after ≡ 65536 → length out′ ≡ 65536 → 65440 < t .feed .filled → BlockMoved f line out block at t line′ after
+    pub block-waits : f .filled + 2100 ≤ 65536 → length after ≡ 65536 → length out′ ≡ 65536 → 63436 < t .feed .filled → BlockMoved f line out block at t line′ after
     unfolding cut
     block-waits w l n h =
         record {
@@ -225,7 +225,7 @@ module _ {f : Feed} {line out block : List ℕ} {at : ℕ} {one : Taken} {line�
             (λ y. omega (arith, m .onward, b .onward))
 
     -- what stands behind the last line is kept
-    pub block-kept : (used : ℕ) (last : List ℕ) → 0 < t .feed .left → t .feed .filled + 96 ≤ 65536 → used ≤ 2001 →
+    pub block-kept : (used : ℕ) (last : List ℕ) → 0 < t .feed .left → t .feed .filled + 2100 ≤ 65536 → used ≤ 2001 →
         take used last ≡ take 2001 (take (t .feed .used) line′ ++ between block (t .at) (length block)) →
         BlockMoved f line out block at (record { feed = record { cond = t .feed .cond; left = t .feed .left; used = used; filled = t .feed .filled }; at = length block }) last after
     block-kept used last p h u k =

@@ -6,11 +6,18 @@ use native.Mathlib.Omega.{arith}
 use lib.ListN.{length, take, drop, length-append}
 use lib.Seq.{take-append-add, length-take-le}
 use borrow.Author.Tests.{le-ltb}
+use Rattle.record.specs.declared.Column.{Column}
+use Rattle.record.specs.declared.Hold.{Hold}
+use Rattle.text.specs.Token.{Token, tokens}
+use Rattle.line_codes.specs.declared.Reading.{Reading}
+use Rattle.line_codes.specs.declared.Reading.the-variants.{Sound, TooLong, BadByte, NotOneForm, BadNumber}
+use Rattle.line_codes.specs.Line.{readingOf}
+use Rattle.request.specs.declared.Kind.{Kind}
+use Rattle.request.specs.declared.Kind.the-variants.{ShipLine, ColumnLine, LoadLine, HoldLine, DropLine, JudgeLine, ClearLine, ShowLine, NoShape}
+use Rattle.request.specs.Shape.{requestOf}
 use Rattle.reply.specs.Written.{over}
 use Rattle.condition.specs.declared.Condition.{Condition}
-use Rattle.hearing.specs.declared.Heard.{Heard}
-use Rattle.panel.specs.Step.{stepOf, conditionAfter, outcomes}
-use Rattle.panel.specs.Answering.{heardOutcome}
+use Rattle.panel.specs.Step.{outcomeBy, outcomeOf, outcomeAfter, stepOf, conditionAfter, outcomes}
 use Rattle.input.specs.Lines.{Cut, cut, lineLength, between}
 use Rattle.input.proofs.Cutting.{cut-more, between-none}
 use Rattle.lines.specs.declared.Feed.{Feed}
@@ -26,23 +33,43 @@ reply-waits l part post w n k p e =
     rw (m, take-append-add (take n l) ((w ++ drop (length w) part) ++ post) (length w), append-assoc w (drop (length w) part) post)
     (ap (λ (t : List ℕ). take n l ++ t) (ap (λ (i : ℕ). take i (w ++ (drop (length w) part ++ post))) z ∙ take-append-add w (drop (length w) part ++ post) 0 ∙ append-nil w))
 
--- with room for a reply, the buffer's length makes no difference
-pub any-room : (c : Condition) (h : Heard) (n : ℕ) → 96 ≤ n → heardOutcome c h n ≡ heardOutcome c h 96
-unfolding heardOutcome
-any-room c h n p = rw (le-ltb n 96 p)
+-- with room for every reply, the buffer's length makes no difference
+module _ (c : Condition) (n : ℕ) (p : 2100 ≤ n) where
+  any-by : (ts : List Token) (k : Kind) (h : Hold) (col : Column) → outcomeBy c ts n k h col ≡ outcomeBy c ts 2100 k h col
+  any-by ts (ShipLine s) h col = refl
+  any-by ts ColumnLine h col = refl
+  any-by ts (LoadLine l) h col = refl
+  any-by ts (HoldLine m) h col = refl
+  any-by ts (DropLine m) h col = refl
+  any-by ts JudgeLine h col = refl
+  any-by ts ClearLine h col = refl
+  any-by ts ShowLine h col = rw (le-ltb n 2100 p)
+  any-by ts NoShape h col = refl
+
+  any-after : (line : List ℕ) (r : Reading) → outcomeAfter c line n r ≡ outcomeAfter c line 2100 r
+  unfolding outcomeOf
+  any-after line Sound = let r = requestOf (tokens line) in any-by (tokens line) (r .kind) (r .hold) (r .column)
+  any-after line TooLong = refl
+  any-after line BadByte = refl
+  any-after line NotOneForm = refl
+  any-after line BadNumber = refl
+
+  pub any-room : (line : List ℕ) → stepOf c line n ≡ stepOf c line 2100
+  unfolding stepOf
+  any-room line = rw (le-ltb n 96 (omega arith), any-after line (readingOf line))
 
 -- ---- lines after lines
 pub sent-on : (c : Condition) (a b : List (List ℕ)) → conditionAfter c (sent (a ++ b)) ≡ conditionAfter (conditionAfter c (sent a)) (sent b)
 unfolding conditionAfter
 sent-on c [] b = refl
-sent-on c (l ∷ a) b = sent-on (stepOf c l 96 .after) a b
+sent-on c (l ∷ a) b = sent-on (stepOf c l 2100 .after) a b
 
 pub replied-on : (c : Condition) (a b : List (List ℕ)) → repliesTo c (a ++ b) ≡ repliesTo c a ++ repliesTo (conditionAfter c (sent a)) b
 unfolding conditionAfter outcomes together
 replied-on c [] b = refl
 replied-on c (l ∷ a) b =
-    ap (λ (w : List ℕ). stepOf c l 96 .reply ++ w) (replied-on (stepOf c l 96 .after) a b)
-    ∙ sym (append-assoc (stepOf c l 96 .reply) (repliesTo (stepOf c l 96 .after) a) (repliesTo (conditionAfter (stepOf c l 96 .after) (sent a)) b))
+    ap (λ (w : List ℕ). stepOf c l 2100 .reply ++ w) (replied-on (stepOf c l 2100 .after) a b)
+    ∙ sym (append-assoc (stepOf c l 2100 .reply) (repliesTo (stepOf c l 2100 .after) a) (repliesTo (conditionAfter (stepOf c l 2100 .after) (sent a)) b))
 
 -- none, and one
 pub none-sent : (c : Condition) → conditionAfter c (sent []) ≡ c
@@ -53,13 +80,13 @@ pub none-replied : (c : Condition) → repliesTo c [] ≡ []
 unfolding outcomes together
 none-replied c = refl
 
-pub one-sent : (c : Condition) (l : List ℕ) → conditionAfter c (sent (l ∷ [])) ≡ stepOf c l 96 .after
+pub one-sent : (c : Condition) (l : List ℕ) → conditionAfter c (sent (l ∷ [])) ≡ stepOf c l 2100 .after
 unfolding conditionAfter
 one-sent c l = refl
 
-pub one-replied : (c : Condition) (l : List ℕ) → repliesTo c (l ∷ []) ≡ stepOf c l 96 .reply
+pub one-replied : (c : Condition) (l : List ℕ) → repliesTo c (l ∷ []) ≡ stepOf c l 2100 .reply
 unfolding outcomes together
-one-replied c l = append-nil (stepOf c l 96 .reply)
+one-replied c l = append-nil (stepOf c l 2100 .reply)
 
 -- ---- the lines taken so far, and one more
 pub taken-none : (f : Feed) (waited block : List ℕ) (at : ℕ) → LinesTaken f waited (between block at at) f waited
@@ -73,7 +100,7 @@ taken-none f waited block at =
     })
 
 pub taken-more : {f r g : Feed} {waited passed waits after : List ℕ} → LinesTaken f waited passed r waits → (l : List ℕ) → length l ≤ lineLength l → 0 < r .left →
-    g .cond ≡ stepOf (r .cond) l 96 .after → g .left ≡ r .left - 1 → after ≡ waits ++ stepOf (r .cond) l 96 .reply → LinesTaken f waited (passed ++ (l ++ 10 ∷ [])) g after
+    g .cond ≡ stepOf (r .cond) l 2100 .after → g .left ≡ r .left - 1 → after ≡ waits ++ stepOf (r .cond) l 2100 .reply → LinesTaken f waited (passed ++ (l ++ 10 ∷ [])) g after
 taken-more {f} {r} {g} {waited} {passed} {waits} {after} s l u p c n w =
     let ls = cut passed .lines in
     let k = cut-more passed l (s .whole) u in
@@ -82,6 +109,6 @@ taken-more {f} {r} {g} {waited} {passed} {waits} {after} s l u p c n w =
       condition = c ∙ rw (k, s .condition) (sym (sent-on (f .cond) ls (l ∷ []) ∙ one-sent (conditionAfter (f .cond) (sent ls)) l));
       replied =
           w ∙ rw (k, s .replied, s .condition, replied-on (f .cond) ls (l ∷ []), one-replied (conditionAfter (f .cond) (sent ls)) l)
-          (append-assoc waited (repliesTo (f .cond) ls) (stepOf (conditionAfter (f .cond) (sent ls)) l 96 .reply));
+          (append-assoc waited (repliesTo (f .cond) ls) (stepOf (conditionAfter (f .cond) (sent ls)) l 2100 .reply));
       count = omega (arith, s .count, ap (λ (k : Cut). length (k .lines)) k, length-append ls (l ∷ []));
     }

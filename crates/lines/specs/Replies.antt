@@ -4,9 +4,9 @@ use Prim.Native.Nat.{ℕ}
 use Rattle.condition.specs.declared.Condition.{Condition}
 use Rattle.panel.specs.Step.{Outcome, Sent, outcomes}
 
--- lines sent to the panel, each with a buffer that is long enough
+-- lines sent to the panel, each with a buffer that is long enough for every reply
 abbrev pub sent : List (List ℕ) → List Sent
-sent ls = map (λ l. record { line = l; lent = 96 }) ls
+sent ls = map (λ l. record { line = l; lent = 2100 }) ls
 
 -- the replies to lines, one behind the other, in their order
 unfoldable pub together : List Outcome → List ℕ

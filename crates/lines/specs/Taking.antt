@@ -22,14 +22,14 @@ pub record LinesTaken (f : Feed) (waited passed : List ℕ) (r : Feed) (waits : 
   pub count : length (cut passed .lines) + r .left ≡ f .left
 
 -- lines of a block from `at` on. No further line is taken where none is left, where the 65,536 bytes of replies might not hold one
--- reply more, of at most 96 bytes, or where no further byte 10 stands in the block
+-- reply more, for which 2,100 bytes are lent, or where no further byte 10 stands in the block
 pub record FromBlock (f : Feed) (block : List ℕ) (at : ℕ) (out : List ℕ) (r : Taken) (after : List ℕ) : Type 0 where
   pub onward : at ≤ r .at
   pub inside : r .at ≤ length block
   pub taken : LinesTaken f (take (f .filled) out) (between block at (r .at)) (r .feed) (take (r .feed .filled) after)
   pub kept : r .feed .used ≡ f .used
   pub room : r .feed .filled ≤ 65536
-  pub stopped : 0 < r .feed .left → r .feed .filled + 96 ≤ 65536 → NoNewline (drop (r .at) block)
+  pub stopped : 0 < r .feed .left → r .feed .filled + 2100 ≤ 65536 → NoNewline (drop (r .at) block)
 
 -- the reply of an outcome goes behind those that wait in the buffer
 pub record RepliedBehind (o : Outcome) (r : Replied) (filled : ℕ) (before after : List ℕ) : Type 0 where
@@ -41,8 +41,8 @@ pub record RepliedBehind (o : Outcome) (r : Replied) (filled : ℕ) (before afte
 
 -- it was taken
 pub record LineTaken (f : Feed) (line waited : List ℕ) (r : Feed) (waits : List ℕ) : Type 0 where
-  pub condition : r .cond ≡ stepOf (f .cond) line 96 .after
-  pub replied : waits ≡ waited ++ stepOf (f .cond) line 96 .reply
+  pub condition : r .cond ≡ stepOf (f .cond) line 2100 .after
+  pub replied : waits ≡ waited ++ stepOf (f .cond) line 2100 .reply
   pub count : r .left + 1 ≡ f .left
 
 -- where lines are left, and no byte 10 is kept; where none is left, nothing is taken; nothing is kept any more
@@ -54,7 +54,7 @@ pub record BegunTaken (f : Feed) (kept waited : List ℕ) (r : Feed) (waits : Li
 
 -- room for a reply in the output, and in the line for its byte 10 behind at most 2,001 bytes
 pub record Room (f : Feed) (line out : List ℕ) : Type 0 where
-  pub waits : f .filled + 96 ≤ 65536
+  pub waits : f .filled + 2100 ≤ 65536
   pub output : length out ≡ 65536
   pub begun : f .used ≤ 2001
   pub long : length line ≡ 2002

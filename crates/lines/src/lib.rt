@@ -5,8 +5,12 @@ use panel::Replied;
 ghost use mathlib.Core.Path.{_≡_};
 ghost use Prim.Native.Nat.{_+_, _≤_, _<_};
 ghost use lib.ListN.{length, take};
-ghost use Rattle.panel.specs.Answering.{heardOutcome};
+ghost use Rattle.hearing.specs.Hearing.{heardOf};
+ghost use Rattle.panel.specs.Step.{stepOf};
 ghost use Rattle.lines.specs.Taking.{FromBlock, RepliedBehind, BegunTaken, Room, FirstMoved, BlockMoved};
+
+// With more bytes of replies than these waiting, the 65,536 might not hold one reply more: 2,100 are lent for each.
+const FILLED: usize = 63436;
 
 // What goes from block to block, beside the kept bytes of a line and the replies: the condition, the lines that may still be
 // taken, how many bytes of a line that has begun are kept, and how many bytes of replies wait.
@@ -34,12 +38,13 @@ fn behind(block: &[u8], at: usize) -> usize
     at + 1
 }
 
-// One line: its reply goes behind those that wait.
-fn answer_line(c: Condition, h: Heard, out: &mut [u8], filled: usize) -> Replied
-    requires { ⌜ (filled + 96 ≤ 65536) × (length (now out) ≡ 65536) ⌝ }
-    ensures { λ r. ⌜ RepliedBehind (heardOutcome c h 96) r filled (now (out .entry)) (now (out .exit)) ⌝ }
+// One line and what was heard of it: its reply goes behind those that wait.
+fn answer_line(c: Condition, line: &[u8], h: Heard, out: &mut [u8], filled: usize) -> Replied
+    requires { ⌜ h ≡ heardOf (now line) ⌝ }
+    requires { ⌜ (filled + 2100 ≤ 65536) × (length (now out) ≡ 65536) ⌝ }
+    ensures { λ r. ⌜ RepliedBehind (stepOf c (now (line .entry)) 2100) r filled (now (out .entry)) (now (out .exit)) ⌝ }
 {
-    panel::answer(c, h, &mut out[filled..])
+    panel::answer(c, line, h, &mut out[filled..])
 }
 
 // Takes the lines of a block from `at` on: up to the last that byte 10 ends, while lines are left and there is room for a reply.
@@ -53,15 +58,16 @@ fn take_lines(f: Feed, block: &[u8], at: usize, out: &mut [u8]) -> Taken
     let used = f.used;
     let mut i = at;
     while 0 < left {
-        if 65440 < filled {
+        if FILLED < filled {
             return stopped(c, left, used, filled, i);
         }
         let e = input::line_end(block, i);
         if block.len() <= e {
             return stopped(c, left, used, filled, i);
         }
-        let h = hearing::hear(&block[i..e]);
-        let r = answer_line(c, h, out, filled);
+        let line = &block[i..e];
+        let h = hearing::hear(line);
+        let r = answer_line(c, line, h, out, filled);
         let long = r.len;
         filled += long;
         left -= 1;
@@ -136,7 +142,7 @@ pub fn feed_block(f: Feed, block: &[u8], at: usize, line: &mut [u8], out: &mut [
     if g.left == 0 {
         return Taken { feed: g, at: all };
     }
-    if 65440 < g.filled {
+    if FILLED < g.filled {
         return t;
     }
     let rest = t.at;

@@ -1,71 +1,94 @@
--- What is heard of a line has the line's outcome, and its effect is the condition after it.
+-- What is heard of a line leads to its outcome, and its effect to the condition after it.
 use mathlib.Core.Path.{_≡_, refl, sym, _∙_, ap}
 use mathlib.Core.Bool.{Bool, true, false, cond}
 use mathlib.Core.List.{List, []}
 use Prim.Native.Nat.{ℕ, _≤_, _<_}
 use native.Mathlib.Omega.{arith}
 use lib.Dec.{eqb, ltb}
+use lib.ListN.{length}
 use borrow.Author.Tests.{lt-ltb, le-ltb, ne-eqb, eqb-false}
 use Rattle.line_codes.specs.declared.Reading.{Reading}
 use Rattle.line_codes.specs.declared.Reading.the-variants.{Sound, TooLong, BadByte, NotOneForm, BadNumber}
 use Rattle.text.specs.Token.{tokens}
 use Rattle.line_codes.specs.Line.{readingOf}
+use Rattle.line_codes.proofs.Alike.{sound-passes}
+use Rattle.request.specs.Shape.{requestOf}
+use Rattle.request.specs.Carried.{carriedRequest}
 use Rattle.condition.specs.declared.Condition.{Condition}
 use Rattle.operations.specs.Operations.{refusedWith}
 use Rattle.hearing.specs.declared.Heard.{Heard}
 use Rattle.hearing.specs.Hearing.{heardBy, heardOf}
 use Rattle.effects.specs.Effect.{effectOf}
 use Rattle.panel.specs.Step.{Outcome, answered, outcomeOf, outcomeAfter, stepOf}
-use Rattle.panel.specs.Answering.{heardOutcome}
 use Rattle.panel.proofs.Codes.{right}
 use Rattle.panel.proofs.Carrying.{carried-outcome}
 use Rattle.panel.proofs.Effects.{effect-is}
 
--- what is heard of a line has its outcome
 module _ (c : Condition) (line : List ℕ) (n : ℕ) where
-  heard-by : (t : Reading) → cond (eqb (heardBy line t .code) 0) (outcomeOf c (heardBy line t .request)) (answered (refusedWith (heardBy line t .code) c)) ≡ outcomeAfter c line t
-  heard-by Sound = carried-outcome c (tokens line)
+  -- the outcome of what is heard: the code that turned the line down, or what its request asks for
+  abbrev outcome : Heard → Outcome
+  outcome h = cond (eqb (h .code) 0) (outcomeOf c (tokens line) n (h .request)) (answered (refusedWith (h .code) c))
+
+  heard-by : (t : Reading) → outcome (heardBy line t) ≡ outcomeAfter c line n t
+  heard-by Sound = carried-outcome c (tokens line) n
   heard-by TooLong = refl
   heard-by BadByte = refl
   heard-by NotOneForm = refl
   heard-by BadNumber = refl
 
-  pub heard-as : (h : Heard) → h ≡ heardOf line → heardOutcome c h n ≡ stepOf c line n
-  unfolding heardOutcome stepOf
-  heard-as h e = rw (e, heard-by (readingOf line))
+  pub step-none : n < 96 → stepOf c line n ≡ record { code = 15; reply = []; after = c }
+  unfolding stepOf
+  step-none p = rw (lt-ltb n 96 p)
 
--- what was heard, with room for a reply
-module _ (c : Condition) (h : Heard) (n : ℕ) where
-  pub heard-none : n < 96 → heardOutcome c h n ≡ record { code = 15; reply = []; after = c }
-  unfolding heardOutcome
-  heard-none p = rw (lt-ltb n 96 p)
+  module _ (h : Heard) (heard : h ≡ heardOf line) where
+    step-heard : 96 ≤ n → stepOf c line n ≡ outcome h
+    unfolding stepOf
+    step-heard p = rw (le-ltb n 96 p, heard) (sym (heard-by (readingOf line)))
 
-  pub heard-refused : 96 ≤ n → (h .code ≡ 0 → ⊥) → heardOutcome c h n ≡ answered (refusedWith (h .code) c)
-  unfolding heardOutcome
-  heard-refused p f = rw (le-ltb n 96 p, ne-eqb (h .code) 0 f)
+    pub step-refused : 96 ≤ n → (h .code ≡ 0 → ⊥) → stepOf c line n ≡ answered (refusedWith (h .code) c)
+    step-refused p f = step-heard p ∙ rw (ne-eqb (h .code) 0 f)
 
-  pub heard-request : 96 ≤ n → h .code ≡ 0 → heardOutcome c h n ≡ outcomeOf c (h .request)
-  unfolding heardOutcome
-  heard-request p e = rw (le-ltb n 96 p, e)
+    pub step-request : 96 ≤ n → h .code ≡ 0 → stepOf c line n ≡ outcomeOf c (tokens line) n (h .request)
+    step-request p e = step-heard p ∙ rw e
 
-  -- 00 is the answer to a request
-  asked-by : (x y : Bool) → eqb (h .code) 0 ≡ y → cond x (record { code = 15; reply = []; after = c }) (cond y (outcomeOf c (h .request)) (answered (refusedWith (h .code) c))) .code ≡ 0 →
-      cond x (record { code = 15; reply = []; after = c }) (cond y (outcomeOf c (h .request)) (answered (refusedWith (h .code) c))) ≡ outcomeOf c (h .request)
-  asked-by true y t e = absurd (omega arith)
-  asked-by false true t e = refl
-  asked-by false false t e = absurd (eqb-false (h .code) 0 t e)
+    -- 00 is the answer to a request
+    asked-by : (x y : Bool) → eqb (h .code) 0 ≡ y → cond x (record { code = 15; reply = []; after = c }) (cond y (outcomeOf c (tokens line) n (h .request)) (answered (refusedWith (h .code) c))) .code ≡ 0 →
+        cond x (record { code = 15; reply = []; after = c }) (cond y (outcomeOf c (tokens line) n (h .request)) (answered (refusedWith (h .code) c))) ≡ outcomeOf c (tokens line) n (h .request)
+    asked-by true y t e = absurd (omega arith)
+    asked-by false true t e = refl
+    asked-by false false t e = absurd (eqb-false (h .code) 0 t e)
 
-  heard-asked : heardOutcome c h n .code ≡ 0 → heardOutcome c h n ≡ outcomeOf c (h .request)
-  unfolding heardOutcome
-  heard-asked e = asked-by (ltb n 96) (eqb (h .code) 0) refl e
+    step-is : stepOf c line n ≡ cond (ltb n 96) (record { code = 15; reply = []; after = c }) (outcome h)
+    unfolding stepOf
+    step-is = rw (heard, heard-by (readingOf line))
 
-  -- the condition after an answer: as it was, or by the request's effect
-  module _ (line : List ℕ) (heard : heardOutcome c h n ≡ stepOf c line n) (code : ℕ) (coded : code ≡ heardOutcome c h n .code) where
-    pub answer-kept : (code ≡ 0 → ⊥) → c ≡ stepOf c line n .after
-    answer-kept f = sym (right c line n .unchanged (λ e. f (coded ∙ ap (λ (o : Outcome). o .code) heard ∙ e)))
+    step-asked : stepOf c line n .code ≡ 0 → stepOf c line n ≡ outcomeOf c (tokens line) n (h .request)
+    step-asked e = step-is ∙ asked-by (ltb n 96) (eqb (h .code) 0) refl (ap (λ (o : Outcome). o .code) (sym step-is) ∙ e)
 
-    pub answer-effect : code ≡ 0 → (d : Condition) → d ≡ effectOf c (h .request) → d ≡ stepOf c line n .after
-    answer-effect e d f =
-        let o = heard-asked (sym coded ∙ e) in
-        f ∙ effect-is c (h .request) (ap (λ (o : Outcome). o .code) (sym o) ∙ sym coded ∙ e)
-        ∙ ap (λ (o : Outcome). o .after) (sym o ∙ heard)
+    -- the condition after an answer: as it was, or by the request's effect
+    module _ (code : ℕ) (coded : code ≡ stepOf c line n .code) where
+      pub answer-kept : (code ≡ 0 → ⊥) → c ≡ stepOf c line n .after
+      answer-kept f = sym (right c line n .unchanged (λ e. f (coded ∙ e)))
+
+      pub answer-effect : code ≡ 0 → (d : Condition) → d ≡ effectOf c (h .request) → d ≡ stepOf c line n .after
+      answer-effect e d f =
+          let o = step-asked (sym coded ∙ e) in
+          f ∙ effect-is c (tokens line) n (h .request) (ap (λ (o : Outcome). o .code) (sym o) ∙ sym coded ∙ e) ∙ ap (λ (o : Outcome). o .after) (sym o)
+
+-- ---- a line with a request passed the tests 10 to 13
+heard-request : (line : List ℕ) (t : Reading) → heardBy line t .code ≡ 0 → (t ≡ Sound) × (heardBy line t .request ≡ carriedRequest (requestOf (tokens line)))
+heard-request line Sound e = (refl, refl)
+heard-request line TooLong e = absurd (omega arith)
+heard-request line BadByte e = absurd (omega arith)
+heard-request line NotOneForm e = absurd (omega arith)
+heard-request line BadNumber e = absurd (omega arith)
+
+module _ (line : List ℕ) (h : Heard) (heard : h ≡ heardOf line) (e : h .code ≡ 0) where
+  found : (readingOf line ≡ Sound) × (heardOf line .request ≡ carriedRequest (requestOf (tokens line)))
+  found = heard-request line (readingOf line) (ap (λ (k : Heard). k .code) (sym heard) ∙ e)
+
+  pub heard-asks : h .request ≡ carriedRequest (requestOf (tokens line))
+  heard-asks = ap (λ (k : Heard). k .request) heard ∙ found .1
+
+  pub heard-short : length line ≤ 2000
+  heard-short = sound-passes line (found .0) .long

@@ -1,8 +1,9 @@
 -- A request as it is carried has the outcome of the request as it was read.
-use mathlib.Core.Path.{_≡_, refl}
+use mathlib.Core.Path.{_≡_, refl, sym, _∙_, ap}
 use mathlib.Core.Bool.{Bool, true, false}
 use mathlib.Core.List.{List}
 use Prim.Native.Nat.{ℕ}
+use native.Mathlib.Omega.{arith}
 use Rattle.whole.proofs.Lists.{and-false}
 use Rattle.text.specs.Token.{Token}
 use Rattle.record.specs.declared.Ship.{Ship}
@@ -12,7 +13,8 @@ use Rattle.record.specs.declared.Hold.{Hold}
 use Rattle.limits.specs.Limits.{shipLimits, loadLimits, columnLimits, holdLimits, placeLimits}
 use Rattle.columns.specs.Columns.{columnAnswer}
 use Rattle.request.specs.declared.Kind.{Kind}
-use Rattle.request.specs.declared.Kind.the-variants.{ShipLine, ColumnLine, LoadLine, HoldLine, DropLine, JudgeLine, ClearLine, NoShape}
+use Rattle.request.specs.declared.Kind.the-variants.{ShipLine, ColumnLine, LoadLine, HoldLine, DropLine, JudgeLine, ClearLine, ShowLine, NoShape}
+use Rattle.request.specs.declared.Request.{Request}
 use Rattle.request.specs.Shape.{requestOf}
 use Rattle.request.specs.Carried.{carriedShip, carriedLoad, carriedColumn, carriedHold, carriedKind, carriedRequest}
 use Rattle.request.proofs.Kept.{same-ship, same-load, same-column, same-hold, kept-ship, kept-load, kept-column}
@@ -42,16 +44,34 @@ module _ (c : Condition) where
   hold-by n h true e k = rw (k e)
   hold-by n h false e k = rw (same-hold h, e, and-false (placeLimits n))
 
-  same-outcome : (k : Kind) (h : Hold) (col : Column) → (holdLimits h ≡ true → carriedHold h ≡ h) → outcomeBy c (carriedKind k) (carriedHold h) (carriedColumn col) ≡ outcomeBy c k h col
-  same-outcome (ShipLine s) h col k = rw (ship-by s (shipLimits s) refl)
-  same-outcome ColumnLine h col k = rw (column-by col (columnLimits col) refl)
-  same-outcome (LoadLine l) h col k = rw (load-by l (loadLimits l) refl)
-  same-outcome (HoldLine n) h col k = rw (hold-by n h (holdLimits h) refl k)
-  same-outcome (DropLine n) h col k = refl
-  same-outcome JudgeLine h col k = refl
-  same-outcome ClearLine h col k = refl
-  same-outcome NoShape h col k = refl
+  module _ (ts : List Token) (n : ℕ) where
+    same-outcome : (k : Kind) (h : Hold) (col : Column) → (holdLimits h ≡ true → carriedHold h ≡ h) → outcomeBy c ts n (carriedKind k) (carriedHold h) (carriedColumn col) ≡ outcomeBy c ts n k h col
+    same-outcome (ShipLine s) h col k = rw (ship-by s (shipLimits s) refl)
+    same-outcome ColumnLine h col k = rw (column-by col (columnLimits col) refl)
+    same-outcome (LoadLine l) h col k = rw (load-by l (loadLimits l) refl)
+    same-outcome (HoldLine m) h col k = rw (hold-by m h (holdLimits h) refl k)
+    same-outcome (DropLine m) h col k = refl
+    same-outcome JudgeLine h col k = refl
+    same-outcome ClearLine h col k = refl
+    same-outcome ShowLine h col k = refl
+    same-outcome NoShape h col k = refl
 
-  pub carried-outcome : (ts : List Token) → outcomeOf c (carriedRequest (requestOf ts)) ≡ outcomeOf c (requestOf ts)
-  unfolding outcomeOf carriedRequest
-  carried-outcome ts = same-outcome (requestOf ts .kind) (requestOf ts .hold) (requestOf ts .column) (kept-hold ts)
+    pub carried-outcome : outcomeOf c ts n (carriedRequest (requestOf ts)) ≡ outcomeOf c ts n (requestOf ts)
+    unfolding outcomeOf carriedRequest
+    carried-outcome = same-outcome (requestOf ts .kind) (requestOf ts .hold) (requestOf ts .column) (kept-hold ts)
+
+-- a show that is carried was read
+carried-by : (k : Kind) → carriedKind k ≡ ShowLine → k ≡ ShowLine
+carried-by (ShipLine s) e = let z : _≡_ {A = ℕ} 0 1 = cc in absurd (omega arith)
+carried-by ColumnLine e = let z : _≡_ {A = ℕ} 0 1 = cc in absurd (omega arith)
+carried-by (LoadLine l) e = let z : _≡_ {A = ℕ} 0 1 = cc in absurd (omega arith)
+carried-by (HoldLine n) e = let z : _≡_ {A = ℕ} 0 1 = cc in absurd (omega arith)
+carried-by (DropLine n) e = let z : _≡_ {A = ℕ} 0 1 = cc in absurd (omega arith)
+carried-by JudgeLine e = let z : _≡_ {A = ℕ} 0 1 = cc in absurd (omega arith)
+carried-by ClearLine e = let z : _≡_ {A = ℕ} 0 1 = cc in absurd (omega arith)
+carried-by ShowLine e = refl
+carried-by NoShape e = let z : _≡_ {A = ℕ} 0 1 = cc in absurd (omega arith)
+
+pub carried-show : (ts : List Token) (r : Request) → r ≡ carriedRequest (requestOf ts) → r .kind ≡ ShowLine → requestOf ts .kind ≡ ShowLine
+unfolding carriedRequest
+carried-show ts r e k = carried-by (requestOf ts .kind) (ap (λ (q : Request). q .kind) (sym e) ∙ k)

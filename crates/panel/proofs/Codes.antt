@@ -13,10 +13,10 @@ use Rattle.stability.specs.declared.Judgement.the-variants.{Passed, ShortOfGm, 
 use Rattle.stability.specs.Verdict.{judgementCode, verdictOf}
 use Rattle.line_codes.specs.declared.Reading.{Reading}
 use Rattle.line_codes.specs.declared.Reading.the-variants.{Sound, TooLong, BadByte, NotOneForm, BadNumber}
-use Rattle.text.specs.Token.{tokens}
+use Rattle.text.specs.Token.{Token, tokens}
 use Rattle.line_codes.specs.Line.{readingOf}
 use Rattle.request.specs.declared.Kind.{Kind}
-use Rattle.request.specs.declared.Kind.the-variants.{ShipLine, ColumnLine, LoadLine, HoldLine, DropLine, JudgeLine, ClearLine, NoShape}
+use Rattle.request.specs.declared.Kind.the-variants.{ShipLine, ColumnLine, LoadLine, HoldLine, DropLine, JudgeLine, ClearLine, ShowLine, NoShape}
 use Rattle.request.specs.declared.Request.{Request}
 use Rattle.request.specs.Shape.{requestOf}
 use Rattle.condition.specs.declared.Condition.{Condition}
@@ -36,11 +36,12 @@ codesOf (HoldLine n) = 0 ∷ 20 ∷ 21 ∷ []
 codesOf (DropLine n) = 0 ∷ 20 ∷ 24 ∷ []
 codesOf JudgeLine = 0 ∷ 30 ∷ 31 ∷ 32 ∷ 33 ∷ 34 ∷ 40 ∷ 41 ∷ 42 ∷ 43 ∷ []
 codesOf ClearLine = 0 ∷ []
+codesOf ShowLine = 0 ∷ 16 ∷ []
 codesOf NoShape = 14 ∷ []
 
 -- and of all requests
 abbrev pub requestCodes : List ℕ
-requestCodes = 0 ∷ 14 ∷ 20 ∷ 21 ∷ 22 ∷ 23 ∷ 24 ∷ 30 ∷ 31 ∷ 32 ∷ 33 ∷ 34 ∷ 40 ∷ 41 ∷ 42 ∷ 43 ∷ []
+requestCodes = 0 ∷ 14 ∷ 16 ∷ 20 ∷ 21 ∷ 22 ∷ 23 ∷ 24 ∷ 30 ∷ 31 ∷ 32 ∷ 33 ∷ 34 ∷ 40 ∷ 41 ∷ 42 ∷ 43 ∷ []
 
 codes-listed : (k : Kind) → all (isOneOf requestCodes) (codesOf k) ≡ true
 unfolding all isOneOf
@@ -51,6 +52,7 @@ codes-listed (HoldLine n) = refl
 codes-listed (DropLine n) = refl
 codes-listed JudgeLine = refl
 codes-listed ClearLine = refl
+codes-listed ShowLine = refl
 codes-listed NoShape = refl
 
 -- of every line
@@ -74,40 +76,42 @@ module _ (c : Condition) where
   unfolding isOneOf all
   right-refusal n e = among refusals (codesOf JudgeLine) n refl e
 
-  pub right-by : (k : Kind) (h : Hold) (col : Column) → Right (codesOf k) c (changed (outcomeBy c k h col))
-  unfolding isOneOf
-  right-by (ShipLine s) h col = ship-right c s
-  right-by ColumnLine h col = column-right c col
-  right-by (LoadLine l) h col = load-right c l
-  right-by (HoldLine n) h col = hold-right c n h
-  right-by (DropLine n) h col = drop-right c n
-  right-by JudgeLine h col =
-      judged-by c (λ (j : Judged). Right (codesOf JudgeLine) c (changed (verdictGiven c j)))
-      (λ n e. right-same c n (right-refusal n e))
-      (λ i. right-same c _ (judgement-listed (verdictOf (c .ship) (basisAt c i) .judgement)))
-  right-by ClearLine h col = right-taken c _ refl
-  right-by NoShape h col = right-same c _ refl
-
-  pub request-code : (k : Kind) (h : Hold) (col : Column) → isOneOf requestCodes (outcomeBy c k h col .code) ≡ true
-  request-code k h col = among (codesOf k) requestCodes _ (codes-listed k) (right-by k h col .listed)
-
-  right-request : (r : Request) → Right every c (changed (outcomeOf c r))
-  unfolding outcomeOf all isOneOf
-  right-request r =
-      record {
-        listed = among requestCodes every (outcomeBy c (r .kind) (r .hold) (r .column) .code) refl (request-code (r .kind) (r .hold) (r .column));
-        unchanged = right-by (r .kind) (r .hold) (r .column) .unchanged;
-      }
-
-  module _ (line : List ℕ) where
-    right-after : (r : Reading) → Right every c (changed (outcomeAfter c line r))
+  module _ (ts : List Token) (lent : ℕ) where
+    pub right-by : (k : Kind) (h : Hold) (col : Column) → Right (codesOf k) c (changed (outcomeBy c ts lent k h col))
     unfolding isOneOf
-    right-after Sound = right-request (requestOf (tokens line))
+    right-by (ShipLine s) h col = ship-right c s
+    right-by ColumnLine h col = column-right c col
+    right-by (LoadLine l) h col = load-right c l
+    right-by (HoldLine n) h col = hold-right c n h
+    right-by (DropLine n) h col = drop-right c n
+    right-by JudgeLine h col =
+        judged-by c (λ (j : Judged). Right (codesOf JudgeLine) c (changed (verdictGiven c j)))
+        (λ n e. right-same c n (right-refusal n e))
+        (λ i. right-same c _ (judgement-listed (verdictOf (c .ship) (basisAt c i) .judgement)))
+    right-by ClearLine h col = right-taken c _ refl
+    right-by ShowLine h col = right-if c changed (ltb lent 2100) (right-same c 16 refl) (right-same c 0 refl)
+    right-by NoShape h col = right-same c _ refl
+
+    pub request-code : (k : Kind) (h : Hold) (col : Column) → isOneOf requestCodes (outcomeBy c ts lent k h col .code) ≡ true
+    request-code k h col = among (codesOf k) requestCodes _ (codes-listed k) (right-by k h col .listed)
+
+    right-request : (r : Request) → Right every c (changed (outcomeOf c ts lent r))
+    unfolding outcomeOf all isOneOf
+    right-request r =
+        record {
+          listed = among requestCodes every (outcomeBy c ts lent (r .kind) (r .hold) (r .column) .code) refl (request-code (r .kind) (r .hold) (r .column));
+          unchanged = right-by (r .kind) (r .hold) (r .column) .unchanged;
+        }
+
+  module _ (line : List ℕ) (lent : ℕ) where
+    right-after : (r : Reading) → Right every c (changed (outcomeAfter c line lent r))
+    unfolding isOneOf
+    right-after Sound = right-request (tokens line) lent (requestOf (tokens line))
     right-after TooLong = right-same c 10 refl
     right-after BadByte = right-same c 11 refl
     right-after NotOneForm = right-same c 12 refl
     right-after BadNumber = right-same c 13 refl
 
-    pub right : (lent : ℕ) → Right every c (changed (stepOf c line lent))
+    pub right : Right every c (changed (stepOf c line lent))
     unfolding stepOf isOneOf
-    right lent = right-if c changed (ltb lent 96) (right-same c 15 refl) (right-after (readingOf line))
+    right = right-if c changed (ltb lent 96) (right-same c 15 refl) (right-after (readingOf line))

@@ -1,4 +1,4 @@
--- Document 01, Every line: what a line and a lent buffer's length give: code, reply and the condition after.
+-- Document 01, Every line, and document 02: what a line and a lent buffer's length give: code, reply and the condition after.
 use mathlib.Core.Path.{_≡_}
 use mathlib.Core.Bool.{cond}
 use mathlib.Core.List.{List, [], _∷_}
@@ -9,15 +9,16 @@ use Rattle.record.specs.declared.Hold.{Hold}
 use Rattle.stability.specs.Verdict.{judgementCode}
 use Rattle.line_codes.specs.declared.Reading.{Reading}
 use Rattle.line_codes.specs.declared.Reading.the-variants.{Sound, TooLong, BadByte, NotOneForm, BadNumber}
-use Rattle.text.specs.Token.{tokens}
+use Rattle.text.specs.Token.{Token, tokens}
 use Rattle.line_codes.specs.Line.{readingOf, readingCode}
 use Rattle.request.specs.declared.Kind.{Kind}
-use Rattle.request.specs.declared.Kind.the-variants.{ShipLine, ColumnLine, LoadLine, HoldLine, DropLine, JudgeLine, ClearLine, NoShape}
+use Rattle.request.specs.declared.Kind.the-variants.{ShipLine, ColumnLine, LoadLine, HoldLine, DropLine, JudgeLine, ClearLine, ShowLine, NoShape}
 use Rattle.request.specs.declared.Request.{Request}
 use Rattle.request.specs.Shape.{requestOf, kindCode}
 use lib.ListN.{length}
 use Rattle.reply.specs.Written.{over}
 use Rattle.reply.specs.Replies.{answerReply, refusalReply, verdictReply}
+use Rattle.showing.specs.Show.{showReply}
 use Rattle.condition.specs.declared.Condition.{Condition}
 use Rattle.condition.specs.Condition.{empty}
 use Rattle.panel.specs.declared.Replied.{Replied}
@@ -32,7 +33,7 @@ pub record Outcome : Type 0 where
   pub reply : List ℕ
   pub after : Condition
 
--- every operation but judge replies `(answer CC)`
+-- every operation but judge and show replies `(answer CC)`
 abbrev pub answered : Change → Outcome
 answered ch = record { code = ch .code; reply = answerReply (ch .code); after = ch .after }
 
@@ -46,42 +47,55 @@ verdictGiven c (Given v) =
       after = c;
     }
 
--- by the request: 14 where it has no shape
-abbrev pub outcomeBy : Condition → Kind → Hold → Column → Outcome
-outcomeBy c (ShipLine s) h k = answered (shipOperation c s)
-outcomeBy c ColumnLine h k = answered (columnOperation c k)
-outcomeBy c (LoadLine l) h k = answered (loadOperation c l)
-outcomeBy c (HoldLine n) h k = answered (holdOperation c n h)
-outcomeBy c (DropLine n) h k = answered (dropOperation c n)
-outcomeBy c JudgeLine h k = verdictGiven c (judgedOf c)
-outcomeBy c ClearLine h k = answered (taken empty)
-outcomeBy c NoShape h k = answered (refusedWith (kindCode NoShape) c)
-
-unfoldable pub outcomeOf : Condition → Request → Outcome
-outcomeOf c r = outcomeBy c (r .kind) (r .hold) (r .column)
-
--- by the tests of the whole line: 10 to 13
-abbrev pub outcomeAfter : Condition → List ℕ → Reading → Outcome
-outcomeAfter c line Sound = outcomeOf c (requestOf (tokens line))
-outcomeAfter c line TooLong = answered (refusedWith (readingCode TooLong) c)
-outcomeAfter c line BadByte = answered (refusedWith (readingCode BadByte) c)
-outcomeAfter c line NotOneForm = answered (refusedWith (readingCode NotOneForm) c)
-outcomeAfter c line BadNumber = answered (refusedWith (readingCode BadNumber) c)
-
--- the least buffer that may be lent for a reply
+-- the least buffer that may be lent for a reply, and for the reply of show
 abbrev pub leastRoom : ℕ
 leastRoom = 96
+
+abbrev pub showRoom : ℕ
+showRoom = 2100
+
+-- show, with these tokens in its line and n bytes lent: 16 where they are too few, else the form inside it. It changes nothing
+abbrev pub formShown : Condition → List Token → (n : ℕ) → Outcome
+formShown c ts n = cond (ltb n showRoom) (answered (refusedWith 16 c)) (record { code = 0; reply = showReply ts; after = c })
+
+-- by the request of a line with these tokens: 14 where it has no shape
+abbrev pub outcomeBy : Condition → List Token → (n : ℕ) → Kind → Hold → Column → Outcome
+outcomeBy c ts n (ShipLine s) h k = answered (shipOperation c s)
+outcomeBy c ts n ColumnLine h k = answered (columnOperation c k)
+outcomeBy c ts n (LoadLine l) h k = answered (loadOperation c l)
+outcomeBy c ts n (HoldLine m) h k = answered (holdOperation c m h)
+outcomeBy c ts n (DropLine m) h k = answered (dropOperation c m)
+outcomeBy c ts n JudgeLine h k = verdictGiven c (judgedOf c)
+outcomeBy c ts n ClearLine h k = answered (taken empty)
+outcomeBy c ts n ShowLine h k = formShown c ts n
+outcomeBy c ts n NoShape h k = answered (refusedWith (kindCode NoShape) c)
+
+unfoldable pub outcomeOf : Condition → List Token → (n : ℕ) → Request → Outcome
+outcomeOf c ts n r = outcomeBy c ts n (r .kind) (r .hold) (r .column)
+
+-- by the tests of the whole line: 10 to 13
+abbrev pub outcomeAfter : Condition → List ℕ → (n : ℕ) → Reading → Outcome
+outcomeAfter c line n Sound = outcomeOf c (tokens line) n (requestOf (tokens line))
+outcomeAfter c line n TooLong = answered (refusedWith (readingCode TooLong) c)
+outcomeAfter c line n BadByte = answered (refusedWith (readingCode BadByte) c)
+outcomeAfter c line n NotOneForm = answered (refusedWith (readingCode NotOneForm) c)
+outcomeAfter c line n BadNumber = answered (refusedWith (readingCode BadNumber) c)
 
 -- a line with a lent buffer of n bytes; under 96 bytes: 15, reply length 0
 unfoldable pub stepOf : Condition → List ℕ → (n : ℕ) → Outcome
 stepOf c line n =
-    cond (ltb n leastRoom) (record { code = 15; reply = []; after = c }) (outcomeAfter c line (readingOf line))
+    cond (ltb n leastRoom) (record { code = 15; reply = []; after = c }) (outcomeAfter c line n (readingOf line))
 
 -- a code, its reply's length, and in the lent buffer the reply over its front, the bytes behind it as they were
 pub record Replies (code : ℕ) (reply : List ℕ) (r : Replied) (before after : List ℕ) : Type 0 where
   pub coded : r .code ≡ code
   pub long : r .len ≡ length reply
   pub written : after ≡ over reply before
+
+-- the same of a show line with these tokens, in any condition
+abbrev pub ShowReplies : List Token → Replied → (before after : List ℕ) → Type 0
+ShowReplies ts r before after =
+    (c : Condition) → Replies (formShown c ts (length before) .code) (formShown c ts (length before) .reply) r before after
 
 -- what the program hands back is this outcome: condition, code and length, and in the lent buffer the reply over its front, the
 -- bytes behind it as they were

@@ -4,15 +4,22 @@ use hearing::Heard;
 use judging::Judged;
 use request::Kind;
 use request::Request;
+ghost use mathlib.Core.Path.{_≡_};
 ghost use Prim.Native.Nat.{_≤_};
 ghost use lib.ListN.{length};
+ghost use Rattle.text.specs.Token.{tokens};
+ghost use Rattle.request.specs.declared.Kind.the-variants.{ShowLine};
+ghost use Rattle.request.specs.Shape.{requestOf};
+ghost use Rattle.request.specs.Carried.{carriedRequest};
+ghost use Rattle.hearing.specs.Hearing.{heardOf};
 ghost use Rattle.reply.specs.Replies.{answerReply};
 ghost use Rattle.judging.specs.Judge.{judgedOf};
-ghost use Rattle.panel.specs.Step.{verdictGiven, outcomeOf, stepOf, Replies, Steps};
-ghost use Rattle.panel.specs.Answering.{heardOutcome};
+ghost use Rattle.panel.specs.Step.{verdictGiven, outcomeOf, stepOf, Replies, ShowReplies, Steps};
 
-// The least buffer that may be lent for a reply, in bytes.
+// The least buffer that may be lent for a reply, and for the reply of show, in bytes.
 const LEAST_ROOM: usize = 96;
+
+const SHOW_ROOM: usize = 2100;
 
 // A code, and the length of the reply that shows it.
 pub struct Replied {
@@ -29,7 +36,7 @@ pub struct Stepped {
 
 // ---- the replies
 
-// Every line but a judge without fault is answered `(answer CC)`.
+// Every line but judge and a show that is taken is answered `(answer CC)`.
 fn answer_with(code: u8, out: &mut [u8]) -> Replied
     requires { ⌜ 96 ≤ length (now out) ⌝ }
     ensures { λ r. ⌜ Replies code (answerReply code) r (now (out .entry)) (now (out .exit)) ⌝ }
@@ -58,10 +65,24 @@ fn give_verdict(c: Condition, out: &mut [u8]) -> Replied
     }
 }
 
-// The reply to a request.
-fn reply_to(c: Condition, r: Request, out: &mut [u8]) -> Replied
-    requires { ⌜ 96 ≤ length (now out) ⌝ }
-    ensures { λ a. ⌜ Replies (outcomeOf c r .code) (outcomeOf c r .reply) a (now (out .entry)) (now (out .exit)) ⌝ }
+// Show replies with the form inside it; 16 where the buffer is too small for any such form.
+fn show_form(line: &[u8], out: &mut [u8]) -> Replied
+    requires { ⌜ requestOf (tokens (now line)) .kind ≡ ShowLine ⌝ }
+    requires { ⌜ (length (now line) ≤ 2000) × (96 ≤ length (now out)) ⌝ }
+    ensures { λ r. ⌜ ShowReplies (tokens (now (line .entry))) r (now (out .entry)) (now (out .exit)) ⌝ }
+{
+    if out.len() < SHOW_ROOM {
+        return answer_with(16, out);
+    }
+    let len = showing::show(line, out);
+    Replied { code: 0, len }
+}
+
+// The reply to the request of a line.
+fn reply_to(c: Condition, line: &[u8], r: Request, out: &mut [u8]) -> Replied
+    requires { ⌜ r ≡ carriedRequest (requestOf (tokens (now line))) ⌝ }
+    requires { ⌜ (length (now line) ≤ 2000) × (96 ≤ length (now out)) ⌝ }
+    ensures { λ a. ⌜ Replies (outcomeOf c (tokens (now (line .entry))) (length (now (out .entry))) r .code) (outcomeOf c (tokens (now (line .entry))) (length (now (out .entry))) r .reply) a (now (out .entry)) (now (out .exit)) ⌝ }
 {
     let kind = r.kind;
     let h = r.hold;
@@ -74,13 +95,15 @@ fn reply_to(c: Condition, r: Request, out: &mut [u8]) -> Replied
         Kind::DropLine(n) => answer_with(operations::drop_code(c, n), out),
         Kind::JudgeLine => give_verdict(c, out),
         Kind::ClearLine => answer_with(0, out),
+        Kind::ShowLine => show_form(line, out),
         Kind::NoShape => answer_with(14, out),
     }
 }
 
-// The reply to what was heard, at the front of the lent buffer.
-pub fn answer(c: Condition, h: Heard, out: &mut [u8]) -> Replied
-    ensures { λ r. ⌜ Replies (heardOutcome c h (length (now (out .entry))) .code) (heardOutcome c h (length (now (out .entry))) .reply) r (now (out .entry)) (now (out .exit)) ⌝ }
+// The reply to a line and what was heard of it, at the front of the lent buffer.
+pub fn answer(c: Condition, line: &[u8], h: Heard, out: &mut [u8]) -> Replied
+    requires { ⌜ h ≡ heardOf (now line) ⌝ }
+    ensures { λ r. ⌜ Replies (stepOf c (now (line .entry)) (length (now (out .entry))) .code) (stepOf c (now (line .entry)) (length (now (out .entry))) .reply) r (now (out .entry)) (now (out .exit)) ⌝ }
 {
     if out.len() < LEAST_ROOM {
         return Replied { code: 15, len: 0 };
@@ -90,7 +113,7 @@ pub fn answer(c: Condition, h: Heard, out: &mut [u8]) -> Replied
         return answer_with(found, out);
     }
     let request = h.request;
-    reply_to(c, request, out)
+    reply_to(c, line, request, out)
 }
 
 // ---- the step
@@ -100,7 +123,7 @@ pub fn step(c: Condition, line: &[u8], out: &mut [u8]) -> Stepped
     ensures { λ r. ⌜ Steps (stepOf c (now (line .entry)) (length (now (out .entry)))) r (now (out .entry)) (now (out .exit)) ⌝ }
 {
     let h = hearing::hear(line);
-    let a = answer(c, h, out);
+    let a = answer(c, line, h, out);
     let code = a.code;
     let len = a.len;
     if code != 0 {

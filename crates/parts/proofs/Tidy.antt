@@ -59,7 +59,7 @@ kept-each f g (x ∷ l) p e = kept-more f g x l (p .0) (kept-each f g l (p .1)) 
 abbrev pub inSlot : Cell → Slot
 inSlot c = record { cell = c }
 
-section-cells : (v : ℕ) (cs : List Cell) → cellsOf (sectionRecord v cs) ≡ cs
+pub section-cells : (v : ℕ) (cs : List Cell) → cellsOf (sectionRecord v cs) ≡ cs
 section-cells v cs =
     rw (padded-front 8 noSlot (map inSlot cs) (length cs) (length-map cs inSlot), map-map (λ (s : Slot). s .cell) inSlot cs) (map-id cs)
 

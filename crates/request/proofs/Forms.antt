@@ -8,8 +8,8 @@ use Rattle.record.specs.declared.Part.{Part}
 use Rattle.record.specs.declared.Column.{Column}
 use Rattle.record.specs.Filler.{noColumn, noHold}
 use Rattle.text.specs.Token.{Token}
-use Rattle.items.specs.Grammar.{open?, close?, run?, head?, number?, lastNumbers?}
-use Rattle.items.proofs.Yields.{Yields, yields, nothing, yields-with, yields-then, yields-whole, last-yield, Several, several-yield}
+use Rattle.items.specs.Grammar.{open?, close?, run?, head?, is, number?, lastNumbers?}
+use Rattle.items.proofs.Yields.{Yields, yields, nothing, yields-with, yields-then, yields-if, yields-whole, last-yield, Several, several-yield}
 use Rattle.parts.specs.Shape.{part?}
 use Rattle.request.specs.declared.RuleNamed.{RuleNamed}
 use Rattle.request.specs.declared.RuleNamed.the-variants.{Under, NoRule}
@@ -18,9 +18,9 @@ use Rattle.request.specs.declared.ModeNamed.the-variants.{As, NoMode}
 use Rattle.request.specs.declared.FormWord.{FormWord}
 use Rattle.request.specs.declared.FormWord.the-variants.{ShipWord, ColumnWord, LoadWord, HoldWord, DropWord, JudgeWord, ClearWord, NoWord}
 use Rattle.request.specs.declared.Kind.{Kind}
-use Rattle.request.specs.declared.Kind.the-variants.{HoldLine, JudgeLine, ClearLine, NoShape}
+use Rattle.request.specs.declared.Kind.the-variants.{HoldLine, JudgeLine, ClearLine, ShowLine, NoShape}
 use Rattle.request.specs.declared.Request.{Request}
-use Rattle.request.specs.Shape.{plain, holdRecord, holdRequest, ruleNamed, shipBy, ship?, column?, load?, modeNamed, partsBy, parts?, hold?, drop?, bare?, formWord, formBy, form?, requestOf}
+use Rattle.request.specs.Shape.{plain, holdRecord, holdRequest, ruleNamed, shipBy, ship?, column?, load?, modeNamed, partsBy, parts?, hold?, drop?, bare?, formWord, formBy, form?, show?, line?, requestOf}
 
 -- ---- a request: a hold of parts that were read, or no hold and a column of ten KN
 module _ (P : Request → Type 0) (Q : Mode → Part → Type 0) (part : (m : Mode) (ts : List Token) → Yields (Q m) (part? m ts)) (hold : (n : ℕ) (m : Mode) (factor : ℕ) (ps : List Part) → Several (Q m) 6 ps → P (holdRequest n (holdRecord m factor ps))) (other : (k : Kind) (c : Column) → ((n : ℕ) → k ≡ HoldLine n → _≡_ {A = ℕ} 0 1) → length (c .kn) ≡ 10 → P (record { kind = k; hold = noHold; column = c })) where
@@ -75,10 +75,14 @@ module _ (P : Request → Type 0) (Q : Mode → Part → Type 0) (part : (m : Mo
   form-by-yields ClearWord us = bare-yields ClearLine (λ n e. cc) us
   form-by-yields NoWord us = nothing
 
-  form-yields : (ts : List Token) → Yields P (form? ts)
-  unfolding form?
-  form-yields ts = yields-then (head? ts) (λ r us. form-by-yields (formWord r) us)
+  show-yields : (ts : List Token) → Yields P (show? ts)
+  unfolding show?
+  show-yields ts = yields-then (form? ts) (λ r us. bare-yields ShowLine (λ n e. cc) us)
+
+  line-yields : (ts : List Token) → Yields P (line? ts)
+  unfolding line?
+  line-yields ts = yields-then (head? ts) (λ r us. yields-if (is r "show") (show-yields us) (form-by-yields (formWord r) us))
 
   pub request-has : (ts : List Token) → P (requestOf ts)
   unfolding requestOf
-  request-has ts = yields-whole P (plain NoShape) (form-yields ts) (other NoShape noColumn (λ n e. cc) refl)
+  request-has ts = yields-whole P (plain NoShape) (line-yields ts) (other NoShape noColumn (λ n e. cc) refl)

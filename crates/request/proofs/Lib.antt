@@ -3,3 +3,4 @@ pub mod Kept
 pub mod Forms
 pub mod Tidy
 pub mod Lengths
+pub mod Shows

@@ -10,7 +10,7 @@ use Rattle.record.specs.declared.Hold.{Hold}
 use Rattle.items.specs.Carried.{carried}
 use Rattle.parts.specs.Carried.{carriedPart}
 use Rattle.request.specs.declared.Kind.{Kind}
-use Rattle.request.specs.declared.Kind.the-variants.{ShipLine, ColumnLine, LoadLine, HoldLine, DropLine, JudgeLine, ClearLine, NoShape}
+use Rattle.request.specs.declared.Kind.the-variants.{ShipLine, ColumnLine, LoadLine, HoldLine, DropLine, JudgeLine, ClearLine, ShowLine, NoShape}
 use Rattle.request.specs.declared.Request.{Request}
 
 abbrev pub carriedRule : Rule → Rule
@@ -41,6 +41,7 @@ carriedKind (HoldLine n) = HoldLine n
 carriedKind (DropLine n) = DropLine n
 carriedKind JudgeLine = JudgeLine
 carriedKind ClearLine = ClearLine
+carriedKind ShowLine = ShowLine
 carriedKind NoShape = NoShape
 
 -- a request as it is carried

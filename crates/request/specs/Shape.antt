@@ -1,4 +1,6 @@
--- Document 01, Lines of the panel: the shapes. A line that is none of them is code 14. Those of cells and parts are in parts/specs/Shape.antt.
+-- Document 01, Lines of the panel, and document 02: the shapes. A line that is none of them is code 14. Those of cells and parts are in
+-- parts/specs/Shape.antt.
+use mathlib.Core.Bool.{cond}
 use mathlib.Core.List.{List, [], _∷_}
 use Prim.Native.Nat.{ℕ}
 use lib.ListN.{length}
@@ -11,7 +13,7 @@ use Rattle.record.specs.declared.Part.{Part}
 use Rattle.record.specs.declared.Hold.{Hold}
 use Rattle.record.specs.Filler.{noColumn, noPart, noHold, padded}
 use Rattle.text.specs.Token.{Token}
-use Rattle.items.specs.Grammar.{Parsed, got, none, _andThen_, open?, close?, run?, head?, named, number?, nth, lastNumbers?, several?, whole?}
+use Rattle.items.specs.Grammar.{Parsed, got, none, _andThen_, open?, close?, run?, head?, is, named, number?, nth, lastNumbers?, several?, whole?}
 use Rattle.parts.specs.Shape.{part?}
 use Rattle.request.specs.declared.RuleWord.{RuleWord}
 use Rattle.request.specs.declared.RuleWord.the-variants.{NewWord, OldWord}
@@ -22,7 +24,7 @@ use Rattle.request.specs.declared.ModeNamed.the-variants.{As, NoMode}
 use Rattle.request.specs.declared.FormWord.{FormWord}
 use Rattle.request.specs.declared.FormWord.the-variants.{ShipWord, ColumnWord, LoadWord, HoldWord, DropWord, JudgeWord, ClearWord, NoWord}
 use Rattle.request.specs.declared.Kind.{Kind}
-use Rattle.request.specs.declared.Kind.the-variants.{ShipLine, ColumnLine, LoadLine, HoldLine, DropLine, JudgeLine, ClearLine, NoShape}
+use Rattle.request.specs.declared.Kind.the-variants.{ShipLine, ColumnLine, LoadLine, HoldLine, DropLine, JudgeLine, ClearLine, ShowLine, NoShape}
 use Rattle.request.specs.declared.Request.{Request}
 
 -- a request with no hold or column beside it; one with a column; one with a hold
@@ -104,7 +106,7 @@ drop? ts = number? ts andThen λ n us. close? us andThen λ u ws. got (plain (Dr
 unfoldable pub bare? : Kind → List Token → Parsed Request
 bare? k ts = close? ts andThen λ u us. got (plain k) us
 
--- a form, by its first word: its word, and the shape of what stands behind it
+-- a form of document 01, by its first word: its word, and the shape of what stands behind it
 abbrev pub formWord : List ℕ → FormWord
 formWord r =
     named
@@ -132,9 +134,17 @@ formBy NoWord ts = none
 unfoldable pub form? : List Token → Parsed Request
 form? ts = head? ts andThen λ r us. formBy (formWord r) us
 
+-- `FORM)` behind `(show`: any of document 01's forms
+unfoldable pub show? : List Token → Parsed Request
+show? ts = form? ts andThen λ r us. bare? ShowLine us
+
+-- a line: a show of a form, or a form
+unfoldable pub line? : List Token → Parsed Request
+line? ts = head? ts andThen λ r us. cond (is r "show") (show? us) (formBy (formWord r) us)
+
 -- the request of a line's tokens
 unfoldable pub requestOf : List Token → Request
-requestOf ts = whole? (form? ts) (plain NoShape)
+requestOf ts = whole? (line? ts) (plain NoShape)
 
 -- the code of each kind: 14 where a line is none of the shapes
 abbrev pub kindCode : Kind → ℕ
@@ -145,4 +155,5 @@ kindCode (HoldLine n) = 0
 kindCode (DropLine n) = 0
 kindCode JudgeLine = 0
 kindCode ClearLine = 0
+kindCode ShowLine = 0
 kindCode NoShape = 14

@@ -15,10 +15,12 @@ ghost use Prim.Native.Nat.{_≤_};
 ghost use lib.ListN.{length, drop};
 ghost use Rattle.text.specs.Token.{tokens};
 ghost use Rattle.items.specs.Carried.{carry};
+ghost use Rattle.items.specs.Grammar.{whole?};
 ghost use Rattle.items.specs.Places.{Ends};
-ghost use Rattle.request.specs.Shape.{ruleNamed, ruleOf, ship?, column?, load?, modeNamed, parts?, hold?, drop?, bare?, formWord, formBy, form?, requestOf};
+ghost use Rattle.request.specs.Shape.{ruleNamed, ruleOf, ship?, column?, load?, modeNamed, parts?, hold?, drop?, bare?, formWord, formBy, requestOf};
 ghost use Rattle.request.specs.Shape.{plain as Shape·plain};
 ghost use Rattle.request.specs.Carried.{carriedRequest};
+ghost use Rattle.request.specs.Word.{word?, WordIs};
 
 // Which form a line is. A hold's and a column's record stand beside it: an enum that holds an array is not covered by the
 // prover's walk.
@@ -30,6 +32,7 @@ pub enum Kind {
     DropLine(u32),
     JudgeLine,
     ClearLine,
+    ShowLine,
     NoShape,
 }
 
@@ -66,6 +69,12 @@ pub enum FormWord {
     JudgeWord,
     ClearWord,
     NoWord,
+}
+
+// The word of a line's form, from a place to a place, and whether the form is inside a show.
+pub enum Word {
+    Of(usize, usize, bool),
+    NoForm,
 }
 
 // A form's request, and the place behind the form.
@@ -333,26 +342,51 @@ fn form_by(s: &[u8], at: usize, word: FormWord) -> Form
     }
 }
 
-// A form, by its first word.
-fn form_at(s: &[u8], at: usize) -> Form
-    requires { ⌜ at ≤ length (now s) ⌝ }
-    ensures { λ r. ⌜ Ends (carry carriedRequest (form? (tokens (drop at (now (s .entry)))))) (now (s .entry)) (r .request) (r .end) ⌝ }
+// The word of a line's form; in a show line, that of the form inside.
+fn first_word(s: &[u8]) -> Word
+    ensures { λ r. ⌜ WordIs (word? (tokens (now (s .entry)))) (now (s .entry)) r ⌝ }
 {
-    let Span::From(a, q) = items::head_at(s, at) else {
-        return no_form();
+    let Span::From(a, q) = items::head_at(s, 0) else {
+        return Word::NoForm;
     };
-    form_by(s, q, form_word(text::run_of(s, a, q)))
+    if text::same(text::run_of(s, a, q), b"show") {
+        let Span::From(b, e) = items::head_at(s, q) else {
+            return Word::NoForm;
+        };
+        return Word::Of(b, e, true);
+    }
+    Word::Of(a, q, false)
 }
 
-// The request of a line: the form that it is, with nothing behind it.
+// The request of a show line, from behind the form inside it: its bracket closes the line. The form's own record is not kept.
+fn show_request(s: &[u8], at: usize) -> Request
+    requires { ⌜ at ≤ length (now s) ⌝ }
+    ensures { λ r. ⌜ r ≡ whole? (bare? Kind.ShowLine (tokens (drop at (now (s .entry))))) (Shape·plain Kind.NoShape) ⌝ }
+{
+    let Place::At(q) = items::close_at(s, at) else {
+        return plain(Kind::NoShape);
+    };
+    if items::ends_at(s, q) {
+        return plain(Kind::ShowLine);
+    }
+    plain(Kind::NoShape)
+}
+
+// The request of a line: the form that it is, or shows, with nothing behind it. One call reads the form in both, since copies of it are large.
 pub fn request_of(line: &[u8]) -> Request
     ensures { λ r. ⌜ r ≡ carriedRequest (requestOf (tokens (now (line .entry)))) ⌝ }
 {
-    let t = form_at(line, 0);
+    let Word::Of(a, p, shown) = first_word(line) else {
+        return plain(Kind::NoShape);
+    };
+    let t = form_by(line, p, form_word(text::run_of(line, a, p)));
     let end = t.end;
     let Place::At(q) = end else {
         return plain(Kind::NoShape);
     };
+    if shown {
+        return show_request(line, q);
+    }
     if items::ends_at(line, q) {
         return t.request;
     }

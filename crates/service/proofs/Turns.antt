@@ -122,10 +122,10 @@ module _ {lines bytes : ℕ} {f : Feed} {line out rest : List ℕ} {more : ℕ} 
               handed = s .handed;
               taken = ls ++ rest ∷ [];
               all = λ later q. rw (q (t .0), append-nil (s .read), ← all-read) (t .1 lines bytes (f .left) (s .input) p has-read);
-              condition = n .condition ∙ rw (e, short-line (f .cond) rest 96, s .stands .condition) (sym (sent-on empty ls (rest ∷ []) ∙ one-sent (conditionAfter empty (sent ls)) rest));
+              condition = n .condition ∙ rw (e, short-line (f .cond) rest 2100, s .stands .condition) (sym (sent-on empty ls (rest ∷ []) ∙ one-sent (conditionAfter empty (sent ls)) rest));
               replied =
                   ap (λ (w : List ℕ). s .handed ++ w) (n .replied)
-                  ∙ sym (append-assoc (s .handed) (take (f .filled) out) (stepOf (f .cond) (take (f .used) line) 96 .reply))
-                  ∙ rw (s .stands .replied, e, short-line (f .cond) rest 96, s .stands .condition)
+                  ∙ sym (append-assoc (s .handed) (take (f .filled) out) (stepOf (f .cond) (take (f .used) line) 2100 .reply))
+                  ∙ rw (s .stands .replied, e, short-line (f .cond) rest 2100, s .stands .condition)
                   (sym (replied-on empty ls (rest ∷ []) ∙ ap (λ (w : List ℕ). repliesTo empty ls ++ w) (one-replied (conditionAfter empty (sent ls)) rest)));
             }

@@ -1,4 +1,3 @@
-pub mod Sorts
 pub mod Reading
 pub mod Own
 pub mod Spelled

@@ -12,7 +12,7 @@ use Rattle.text.proofs.Runs.{run-token}
 use Rattle.text.proofs.Parts.{tokens-opening, tokens-closing, tokens-space, tokens-last, tokens-more}
 use Rattle.spelling.specs.Spelling.{endsItem, between, spell}
 use Rattle.spelling.specs.SoSpelled.{byteAt, SoSpelled}
-use Rattle.spelling.proofs.Sorts.{Sort, isSpace, isOpening, isClosing, isOfRun, sort, not-in-run}
+use Rattle.text.proofs.Sorts.{Sort, isSpace, isOpening, isClosing, isOfRun, sort, not-in-run}
 
 -- so spelled, whatever stands at the front
 pub record Spaced (line : List ℕ) : Type 0 where

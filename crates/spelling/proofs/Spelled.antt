@@ -10,7 +10,7 @@ use Rattle.whole.proofs.Lists.{clash, and-true}
 use Rattle.text.specs.Token.{space, opening, closing, inRun, allowed, Token, opened, closed, run}
 use Rattle.spelling.specs.Spelling.{between, spell, proper}
 use Rattle.spelling.specs.SoSpelled.{byteAt, SoSpelled}
-use Rattle.spelling.proofs.Sorts.{not-in-run}
+use Rattle.text.proofs.Sorts.{not-in-run}
 use Rattle.spelling.proofs.Own.{Spaced}
 
 -- two bytes that may stand side by side

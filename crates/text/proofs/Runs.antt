@@ -9,13 +9,13 @@ use lib.Dec.{eqb, leb}
 use lib.ListN.{length, getD, take, drop, length-drop}
 use lib.Seq.{drop-drop}
 use Rattle.whole.specs.Lists.{within}
-use borrow.Author.Tests.{ne-eqb, eq-eqb, leb-true, leb-false, not-true, not-false}
+use borrow.Author.Tests.{ne-eqb, eq-eqb, eqb-true, leb-true, leb-false, not-true, not-false}
 use Rattle.text.specs.Token.{opened, closed, run, inRun, startsRun, glue, tokens, same}
 use Rattle.text.specs.Token.{RunRule, prefix, runLength}
 use Rattle.text.specs.Places.{startsToken, gap, tokenAt, nextOf}
 use Rattle.text.specs.declared.Next.{Next}
 use Rattle.text.specs.declared.Next.the-variants.{Open, Close, Run, End}
-use Rattle.whole.proofs.Lists.{drop-next, drop-end}
+use Rattle.whole.proofs.Lists.{clash, and-true, drop-next, drop-end}
 use Rattle.text.proofs.Scans.{prefix-le, scan-over, scan-stop}
 
 pub no-run : (s : List ℕ) → startsRun s ≡ false → runLength s ≡ 0
@@ -36,6 +36,15 @@ run-token [] e =
 run-token (b ∷ s) e = rw e (run-by b s (startsRun s) refl (run-token s))
 
 -- ---- two runs, compared byte by byte
+pub same-true : (a b : List ℕ) → same a b ≡ true → a ≡ b
+unfolding same
+same-true [] [] e = refl
+same-true [] (y ∷ b) e = clash e
+same-true (x ∷ a) [] e = clash e
+same-true (x ∷ a) (y ∷ b) e =
+    let t = and-true (eqb x y) (same a b) e in
+    rw (eqb-true x y (t .0), same-true a b (t .1))
+
 module _ (a b : List ℕ) (i : ℕ) where
   same-end : length a ≤ i → length b ≤ i → same (drop i a) (drop i b) ≡ true
   unfolding same

@@ -37,6 +37,10 @@ returns-8 : tie.Need-returns-8
 unfolding effectOf
 returns-8 c = rw (c .enum-told4 .given .1) refl
 
+returns-9 : tie.Need-returns-9
+unfolding effectOf
+returns-9 c = rw (c .enum-told5 .given .1) refl
+
 pub effect-spec : {M : Type 1} → statement M
 effect-spec =
     tie.close
@@ -56,6 +60,7 @@ effect-spec =
     (λ c. search needs)
     (λ c κs. search needs)
     (λ c. search needs)
+    (λ c. search needs)
     returns
     returns-2
     returns-3
@@ -63,4 +68,5 @@ effect-spec =
     returns-5
     returns-6
     returns-7
-    returns-8)
+    returns-8
+    returns-9)

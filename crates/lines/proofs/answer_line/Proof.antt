@@ -11,17 +11,18 @@ use Rattle.lines.proofs.answer_line.Tie as tie
 
 returns : tie.Need-returns
 returns c =
-    let args = c .before .before .before .before .before .args in
-    let pre = c .before .before .before .before .before .pre in
+    let k = c .before .before .before .before .before .before in
+    let args = k .args in
+    let pre = k .pre .1 in
     let l = args .out .now in
     let n = args .filled in
     let part = take (length l - n) (drop n l) in
     let d = length-drop n l in
     let m = length-take-le (length l - n) (drop n l) (omega arith) in
-    let r : 96 ≤ length part = omega (arith, pre) in
+    let r : 2100 ≤ length part = omega (arith, pre) in
     let e = c .before .before .answer .ensures in
-    let a = any-room (args .c) (args .h) (length part) r in
-    let w = over-fits _ part _ (e .written) (c .before .before .answer .kept .1 .1 .0) in
+    let a = any-room (args .c) (length part) r (args .line .now) in
+    let w = over-fits _ part _ (e .written) (c .before .before .answer .kept .1 .1 .1 .0) in
     rw (← a)
     (record {
       coded = e .coded;

@@ -3,7 +3,7 @@ use mathlib.Core.Path.{_≡_, refl, sym, _∙_}
 use Prim.Native.Nat.{_-_}
 use native.Mathlib.Omega.{arith}
 use lib.ListN.{length}
-use Rattle.panel.proofs.Answers.{heard-as, answer-kept, answer-effect}
+use Rattle.panel.proofs.Answers.{answer-kept, answer-effect}
 use Rattle.input.specs.Lines.{between}
 use Rattle.input.proofs.Cutting.{no-line}
 use Rattle.lines.proofs.Pieces.{TakingAt, taking-first, taking-line, taking-ends}
@@ -42,7 +42,7 @@ returns-2 c =
 answer-line-requires : tie.Need-answer-line-requires Inv-loop μ-loop
 answer-line-requires c κs =
     let loop = c .before .before .before .before .before .before .before .loop in
-    (omega (arith, c .before .before .before .before .before .if1 .left), loop .inv .0 .sized)
+    (c .before .hear .ensures, (omega (arith, c .before .before .before .before .before .if1 .left), loop .inv .0 .sized))
 
 loop-less : tie.Need-loop-less Inv-loop μ-loop
 loop-less c =
@@ -59,9 +59,8 @@ loop-again c =
     let l = c .before .before .before .before .before .before .before .before .before .before .before .before .before .before .before .loop in
     let args = c .before .before .before .before .before .before .before .before .before .before .before .before .before .before .before .before .before .before .before .args in
     let t = between (args .block .now) (l .i) (e .result) in
-    let o = heard-as (l .c) t 96 (h .result) (h .ensures) in
-    let d = answer-effect (l .c) (h .result) 96 t o (a .result .code) (a .ensures .coded) (c .before .before .if3 .taken) (c .effect .result) (c .effect .ensures) in
-    (rw (c .before .before .before .before .behind .ensures .0) (taking-line (l .inv .0) (e .result) (e .ensures .0) (omega (arith, if2 .left)) (omega (arith, loop-test .taken)) _ _ d refl (rw o at (a .ensures .waits)) (a .ensures .room) (a .kept .1 .1 .0 ∙ l .inv .0 .sized)), l .inv .1)
+    let d = answer-effect (l .c) t 2100 (h .result) (h .ensures) (a .result .code) (a .ensures .coded) (c .before .before .if3 .taken) (c .effect .result) (c .effect .ensures) in
+    (rw (c .before .before .before .before .behind .ensures .0) (taking-line (l .inv .0) (e .result) (e .ensures .0) (omega (arith, if2 .left)) (omega (arith, loop-test .taken)) _ _ d refl (a .ensures .waits) (a .ensures .room) (a .kept .1 .1 .1 .0 ∙ l .inv .0 .sized)), l .inv .1)
 
 loop-less-2 : tie.Need-loop-less-2 Inv-loop μ-loop
 loop-less-2 c =
@@ -78,9 +77,8 @@ loop-again-2 c =
     let args = c .before .before .before .before .before .before .before .before .before .before .before .before .before .before .before .before .before .args in
     let a = c .before .before .before .before .before .answer-line in
     let t = between (args .block .now) (l .i) (e .result) in
-    let o = heard-as (l .c) t 96 (h .result) (h .ensures) in
-    let d = answer-kept (l .c) (h .result) 96 t o (a .result .code) (a .ensures .coded) (c .if3 .left) in
-    (rw (c .before .before .behind .ensures .0) (taking-line (l .inv .0) (e .result) (e .ensures .0) (omega (arith, if2 .left)) (omega (arith, loop-test .taken)) _ _ d refl (rw o at (a .ensures .waits)) (a .ensures .room) (a .kept .1 .1 .0 ∙ l .inv .0 .sized)), l .inv .1)
+    let d = answer-kept (l .c) t 2100 (h .result) (h .ensures) (a .result .code) (a .ensures .coded) (c .if3 .left) in
+    (rw (c .before .before .behind .ensures .0) (taking-line (l .inv .0) (e .result) (e .ensures .0) (omega (arith, if2 .left)) (omega (arith, loop-test .taken)) _ _ d refl (a .ensures .waits) (a .ensures .room) (a .kept .1 .1 .1 .0 ∙ l .inv .0 .sized)), l .inv .1)
 
 same-length-3 : tie.Need-same-length-3 Inv-loop μ-loop
 same-length-3 c = let v = c .before .before .loop .inv in v .0 .sized ∙ sym (v .1)

@@ -2,7 +2,7 @@
 use mathlib.Core.Path.{refl}
 use lib.ListN.{length}
 use Rattle.reply.specs.Written.{over}
-use Rattle.panel.proofs.Answers.{heard-none, heard-refused, heard-request}
+use Rattle.panel.proofs.Answers.{step-none, step-refused, step-request, heard-asks, heard-short}
 use borrow.Author.Needs.{needs}
 use Rattle.panel.proofs.answer.Statement.{statement}
 use Rattle.panel.proofs.answer.Tie as tie
@@ -10,18 +10,27 @@ use Rattle.panel.proofs.answer.Tie as tie
 returns : tie.Need-returns
 unfolding over
 returns c =
-    let k = c .before .before .args in
-    rw (heard-none (k .c) (k .h) (length (k .out .now)) (search needs)) (record { coded = refl; long = refl; written = refl })
+    let k = c .before .before .before .args in
+    rw (step-none (k .c) (k .line .now) (length (k .out .now)) (search needs)) (record { coded = refl; long = refl; written = refl })
 
 returns-2 : tie.Need-returns-2
 returns-2 c =
-    let k = c .before .before .before .before .before .before .before .args in
-    rw (heard-refused (k .c) (k .h) (length (k .out .now)) (search needs) (c .before .before .before .before .if2 .taken)) (c .before .before .answer-with .ensures)
+    let t = c .before .before .before .before in
+    let k = t .before .before .before .before in
+    rw (step-refused (k .args .c) (k .args .line .now) (length (k .args .out .now)) (k .args .h) (k .pre) (search needs) (t .if2 .taken)) (c .before .before .answer-with .ensures)
+
+reply-to-requires : tie.Need-reply-to-requires
+reply-to-requires c κs =
+    let t = c .before .before in
+    let k = t .before .before .before .before in
+    let line = k .args .line .now in
+    (heard-asks line (k .args .h) (k .pre) (t .if2 .left), (heard-short line (k .args .h) (k .pre) (t .if2 .left), search needs))
 
 returns-3 : tie.Need-returns-3
 returns-3 c =
-    let k = c .before .before .before .before .before .before .before .before .args in
-    rw (heard-request (k .c) (k .h) (length (k .out .now)) (search needs) (c .before .before .before .before .before .if2 .left)) (c .before .before .reply-to .ensures)
+    let t = c .before .before .before .before .before in
+    let k = t .before .before .before .before in
+    rw (step-request (k .args .c) (k .args .line .now) (length (k .args .out .now)) (k .args .h) (k .pre) (search needs) (t .if2 .left)) (c .before .before .reply-to .ensures)
 
 pub answer-spec : {M : Type 1} → statement M
 answer-spec =
@@ -31,6 +40,6 @@ answer-spec =
     (λ c κs. search needs)
     (λ c. search needs)
     returns-2
-    (λ c κs. search needs)
+    reply-to-requires
     (λ c. search needs)
     returns-3)

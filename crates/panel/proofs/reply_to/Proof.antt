@@ -1,5 +1,7 @@
 -- `reply_to`: the reply to a request.
+use Rattle.text.specs.Token.{tokens}
 use Rattle.panel.specs.Step.{outcomeOf}
+use Rattle.panel.proofs.Carrying.{carried-show}
 use borrow.Author.Needs.{needs}
 use Rattle.panel.proofs.reply_to.Statement.{statement}
 use Rattle.panel.proofs.reply_to.Tie as tie
@@ -8,7 +10,7 @@ returns : tie.Need-returns
 unfolding outcomeOf
 returns c =
     let k = c .before .before .before .before .before .before in
-    rw (k .kind .given .1, ← c .before .before .before .before .ship-code .ensures (k .before .before .before .before .before .args .c)) (c .before .before .answer-with .ensures)
+    rw (k .kind .given .1, ← c .before .before .before .before .ship-code .ensures (k .before .before .before .before .before .before .args .c)) (c .before .before .answer-with .ensures)
 
 returns-2 : tie.Need-returns-2
 unfolding outcomeOf
@@ -18,13 +20,13 @@ returns-3 : tie.Need-returns-3
 unfolding outcomeOf
 returns-3 c =
     let k = c .before .before .before .before .before .before in
-    rw (k .kind2 .given .1, ← c .before .before .before .before .load-code .ensures (k .before .before .before .before .before .args .c)) (c .before .before .answer-with3 .ensures)
+    rw (k .kind2 .given .1, ← c .before .before .before .before .load-code .ensures (k .before .before .before .before .before .before .args .c)) (c .before .before .answer-with3 .ensures)
 
 returns-4 : tie.Need-returns-4
 unfolding outcomeOf
 returns-4 c =
     let k = c .before .before .before .before .before .before in
-    rw (k .kind3 .given .1, ← c .before .before .before .before .hold-code .ensures (k .before .before .before .before .before .args .c)) (c .before .before .answer-with4 .ensures)
+    rw (k .kind3 .given .1, ← c .before .before .before .before .hold-code .ensures (k .before .before .before .before .before .before .args .c)) (c .before .before .answer-with4 .ensures)
 
 returns-5 : tie.Need-returns-5
 unfolding outcomeOf
@@ -40,9 +42,21 @@ returns-7 : tie.Need-returns-7
 unfolding outcomeOf
 returns-7 c = rw (c .before .before .before .before .enum-told3 .given .1) (c .before .before .answer-with6 .ensures)
 
+show-form-requires : tie.Need-show-form-requires
+show-form-requires c κs =
+    let t = c .before in
+    let k = t .before .before .before .before .before .before in
+    (carried-show (tokens (k .args .line .now)) (k .args .r) (k .pre .0) (t .enum-told4 .given .1), k .pre .1)
+
 returns-8 : tie.Need-returns-8
 unfolding outcomeOf
-returns-8 c = rw (c .before .before .before .before .enum-told4 .given .1) (c .before .before .answer-with7 .ensures)
+returns-8 c =
+    let k = c .before .before .before .before .before .before .before .before .before .before in
+    rw (c .before .before .before .before .enum-told4 .given .1) (c .before .before .show-form .ensures (k .args .c))
+
+returns-9 : tie.Need-returns-9
+unfolding outcomeOf
+returns-9 c = rw (c .before .before .before .before .enum-told5 .given .1) (c .before .before .answer-with7 .ensures)
 
 pub reply-to-spec : {M : Type 1} → statement M
 reply-to-spec =
@@ -68,6 +82,8 @@ reply-to-spec =
     (λ c. search needs)
     (λ c κs. search needs)
     (λ c. search needs)
+    show-form-requires
+    (λ c. search needs)
     (λ c κs. search needs)
     (λ c. search needs)
     returns
@@ -84,4 +100,6 @@ reply-to-spec =
     (λ c. search needs)
     returns-7
     (λ c. search needs)
-    returns-8)
+    returns-8
+    (λ c. search needs)
+    returns-9)

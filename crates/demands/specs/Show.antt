@@ -1,0 +1,51 @@
+-- Document 02, P2, in its own words: what show takes, what it replies, and that the reply can be sent again.
+use mathlib.Core.Path.{_≡_}
+use mathlib.Core.List.{List, [], _∷_, _++_}
+use mathlib.Core.Logic.{_↔_}
+use Prim.Native.Nat.{ℕ, _≤_, _<_}
+use lib.ListN.{length, getD, replicate}
+use Rattle.whole.specs.Bytes.{bytes}
+use Rattle.text.specs.Token.{tokens}
+use Rattle.line_codes.specs.Codes.{LetterOrDigit}
+use Rattle.spelling.specs.SoSpelled.{SoSpelled}
+use Rattle.request.specs.declared.Kind.the-variants.{ShowLine}
+use Rattle.showing.specs.Laws.{OfDocument01}
+use Rattle.condition.specs.declared.Condition.{Condition}
+use Rattle.panel.specs.Step.{Outcome, stepOf}
+use Rattle.demands.specs.Codes.{request, SoundLine, Asks}
+
+-- `(show LINE)`: spaces, a bracket, spaces, the word, the line inside, a bracket, spaces
+pub record ShowAround (line inner : List ℕ) : Type 0 where
+  pub before : ℕ
+  pub inside : ℕ
+  pub behind : ℕ
+  pub bytes : line ≡ replicate before 32 ++ (40 ∷ (replicate inside 32 ++ (bytes "show" ++ (inner ++ (41 ∷ replicate behind 32)))))
+  pub apart : 0 < length inner → LetterOrDigit (getD inner 0 0) → ⊥
+
+-- a line is a show exactly where the line inside it asks for a form of document 01 (14 around anything else: a show, nothing, two forms,
+-- a part alone)
+abbrev pub ShowsAForm : Type 0
+ShowsAForm =
+    (line : List ℕ) (lent : ℕ) →
+    Asks line lent ShowLine ↔ ((96 ≤ lent) × SoundLine line × ((inner : List ℕ) × ShowAround line inner × OfDocument01 (request inner .kind)))
+
+-- a show with room for its reply: 00, and nothing changed
+pub record Shown (c : Condition) (line : List ℕ) (o : Outcome) : Type 0 where
+  pub code : o .code ≡ 0
+  pub after : o .after ≡ c
+  -- around a line to which none of 10 to 13 applies
+  pub inner : List ℕ
+  pub around : ShowAround line inner
+  pub sound : SoundLine inner
+  -- the reply is that line with single spaces between items and nowhere else, and a newline: a line that is so spelled comes back unchanged
+  pub spelled : List ℕ
+  pub reply : o .reply ≡ spelled ++ 10 ∷ []
+  pub so : SoSpelled spelled
+  pub same : tokens spelled ≡ tokens inner
+  pub own : SoSpelled inner → spelled ≡ inner
+  -- it fits into the 2,100 bytes, and where it is no longer than a line may be, it has the outcome of the line that was shown
+  pub fits : length (o .reply) ≤ 2049
+  pub copied : length spelled ≤ 2000 → (d : Condition) (lent : ℕ) → stepOf d spelled lent ≡ stepOf d inner lent
+
+abbrev pub ShowsTheForm : Type 0
+ShowsTheForm = (c : Condition) (line : List ℕ) (lent : ℕ) → Asks line lent ShowLine → 2100 ≤ lent → Shown c line (stepOf c line lent)

@@ -1,0 +1,4 @@
+pub mod Within
+pub mod Printed
+pub mod Sending
+pub mod Laws

@@ -1,0 +1,174 @@
+-- Which lines are a show, and of what.
+use mathlib.Core.Path.{_≡_, refl, sym, _∙_, ap}
+use mathlib.Core.Bool.{Bool, true, false, cond}
+use mathlib.Core.List.{List, [], _∷_, _++_, append-nil}
+use Prim.Native.Nat.{ℕ}
+use native.Mathlib.Omega.{arith}
+use Rattle.whole.specs.Bytes.{bytes}
+use Rattle.text.specs.Token.{Token, opened, closed, run, same}
+use Rattle.text.proofs.Runs.{same-true}
+use Rattle.items.specs.Grammar.{Parsed, got, none, _andThen_, open?, close?, run?, head?, is, named, number?, lastNumbers?, several?, whole?}
+use Rattle.items.proofs.Yields.{Yields, yields, nothing, yields-then}
+use Rattle.parts.specs.Shape.{part?}
+use Rattle.request.specs.declared.RuleNamed.{RuleNamed}
+use Rattle.request.specs.declared.RuleNamed.the-variants.{Under, NoRule}
+use Rattle.request.specs.declared.ModeNamed.{ModeNamed}
+use Rattle.request.specs.declared.ModeNamed.the-variants.{As, NoMode}
+use Rattle.request.specs.declared.FormWord.{FormWord}
+use Rattle.request.specs.declared.FormWord.the-variants.{ShipWord, ColumnWord, LoadWord, HoldWord, DropWord, JudgeWord, ClearWord, NoWord}
+use Rattle.request.specs.declared.Kind.{Kind}
+use Rattle.request.specs.declared.Kind.the-variants.{ShowLine, NoShape}
+use Rattle.request.specs.declared.Request.{Request}
+use Rattle.request.specs.Shape.{plain, ruleNamed, shipBy, ship?, column?, load?, modeNamed, partsBy, parts?, hold?, drop?, bare?, formWord, formBy, form?, show?, line?, requestOf}
+use Rattle.showing.specs.Laws.{OfDocument01, ship, column, load, hold, drop, judge, clear, ShowOf}
+use Rattle.showing.proofs.Framing.{form-frames}
+
+-- ---- what a form yields
+abbrev Of01 : Request → Type 0
+Of01 r = OfDocument01 (r .kind)
+
+hold-by : (n : ℕ) (m : ModeNamed) (ts : List Token) → Yields Of01 (partsBy n m ts)
+unfolding parts?
+hold-by n (As m) ts = yields-then (number? ts) (λ f us. yields-then (several? 6 (part? m) us) (λ ps ws. yields hold))
+hold-by n NoMode ts = nothing
+
+ship-by : (r : RuleNamed) (ts : List Token) → Yields Of01 (shipBy r ts)
+ship-by (Under w) ts = yields-then (lastNumbers? 2 ts) (λ v us. yields ship)
+ship-by NoRule ts = nothing
+
+form-by : (w : FormWord) (ts : List Token) → Yields Of01 (formBy w ts)
+unfolding ship? column? load? hold? drop? bare?
+form-by ShipWord ts = yields-then (run? ts) (λ r us. ship-by (ruleNamed r) us)
+form-by ColumnWord ts =
+    yields-then (number? ts) (λ d t1. yields-then (number? t1) (λ km t2. yields-then (open? t2) (λ u t3.
+    yields-then (lastNumbers? 10 t3) (λ kn t4. yields-then (close? t4) (λ u t5. yields column)))))
+form-by LoadWord ts = yields-then (number? ts) (λ d us. yields-then (lastNumbers? 2 us) (λ v ws. yields load))
+form-by HoldWord ts = yields-then (number? ts) (λ n us. yields-then (run? us) (λ r ws. hold-by n (modeNamed r) ws))
+form-by DropWord ts = yields-then (number? ts) (λ n us. yields-then (close? us) (λ u ws. yields drop))
+form-by JudgeWord ts = yields-then (close? ts) (λ u us. yields judge)
+form-by ClearWord ts = yields-then (close? ts) (λ u us. yields clear)
+form-by NoWord ts = nothing
+
+yielded : {r : Parsed Request} (a : Request) (us : List Token) → Yields Of01 r → r ≡ got a us → Of01 a
+yielded a us (yields {a = b} p) e = let t : b ≡ a = cc in rw (← t) p
+yielded a us nothing e = let z : _≡_ {A = ℕ} 0 1 = cc in absurd (omega arith)
+
+form-kind : (ts : List Token) (a : Request) (us : List Token) → form? ts ≡ got a us → Of01 a
+unfolding form?
+form-kind ts a us e = yielded a us (yields-then (head? ts) (λ r ws. form-by (formWord r) ws)) e
+
+-- none of these is a show, nor without a shape
+unlike : {k : Kind} → (k ≡ ShowLine → _≡_ {A = ℕ} 0 1) → (k ≡ NoShape → _≡_ {A = ℕ} 0 1) → (k ≡ ShowLine → ⊥) × (k ≡ NoShape → ⊥)
+unlike f g = (λ e. omega (arith, f e), λ e. omega (arith, g e))
+
+not-01 : {k : Kind} → OfDocument01 k → (k ≡ ShowLine → ⊥) × (k ≡ NoShape → ⊥)
+not-01 ship = unlike (λ e. cc) (λ e. cc)
+not-01 column = unlike (λ e. cc) (λ e. cc)
+not-01 load = unlike (λ e. cc) (λ e. cc)
+not-01 hold = unlike (λ e. cc) (λ e. cc)
+not-01 drop = unlike (λ e. cc) (λ e. cc)
+not-01 judge = unlike (λ e. cc) (λ e. cc)
+not-01 clear = unlike (λ e. cc) (λ e. cc)
+
+-- ---- a line is a form, or a show of one
+data Read (ts : List Token) (a : Request) (us : List Token) : Type 0 where
+  a-form : form? ts ≡ got a us → Read ts a us
+  a-show : (vs : List Token) → ts ≡ opened ∷ run (bytes "show") ∷ vs → show? vs ≡ got a us → Read ts a us
+
+clash : {B : Type 0} {a : Request} {us : List Token} → none ≡ got a us → B
+clash e = let z : _≡_ {A = ℕ} 0 1 = cc in absurd (omega arith)
+
+read-line : (ts : List Token) (a : Request) (us : List Token) → line? ts ≡ got a us → Read ts a us
+unfolding line? form? head? open? run?
+read-line [] a us e = clash e
+read-line (closed ∷ ts) a us e = clash e
+read-line (run r ∷ ts) a us e = clash e
+read-line (opened ∷ []) a us e = clash e
+read-line (opened ∷ opened ∷ ts) a us e = clash e
+read-line (opened ∷ closed ∷ ts) a us e = clash e
+read-line (opened ∷ run r ∷ ts) a us e = by (is r "show") refl e
+  where
+    by : (x : Bool) → is r "show" ≡ x → cond x (show? ts) (formBy (formWord r) ts) ≡ got a us → Read (opened ∷ run r ∷ ts) a us
+    by true p w = a-show ts (ap (λ q. opened ∷ run q ∷ ts) (same-true r (bytes "show") p)) w
+    by false p w = a-form w
+
+form-line : (ts : List Token) (a : Request) (us : List Token) → form? ts ≡ got a us → line? ts ≡ got a us
+unfolding line? form? head? open? run? named same
+form-line [] a us e = clash e
+form-line (closed ∷ ts) a us e = clash e
+form-line (run r ∷ ts) a us e = clash e
+form-line (opened ∷ []) a us e = clash e
+form-line (opened ∷ opened ∷ ts) a us e = clash e
+form-line (opened ∷ closed ∷ ts) a us e = clash e
+form-line (opened ∷ run r ∷ ts) a us e = by (is r "show") refl
+  where
+    no-word : is r "show" ≡ true → formWord r ≡ NoWord
+    no-word p = rw (same-true r (bytes "show") p)
+
+    by : (x : Bool) → is r "show" ≡ x → cond x (show? ts) (formBy (formWord r) ts) ≡ got a us
+    by true p = clash (rw (no-word p) at e)
+    by false p = e
+
+-- what a show reads: a form, and the bracket behind it
+show-reads : (vs : List Token) (a : Request) (us : List Token) → show? vs ≡ got a us → (a ≡ plain ShowLine) × ((b : Request) × (form? vs ≡ got b (closed ∷ us)))
+unfolding show? bare? close?
+show-reads vs a us e = by (form? vs) refl e
+  where
+    then : (b : Request) (ws : List Token) → form? vs ≡ got b ws → (close? ws andThen λ u xs. got (plain ShowLine) xs) ≡ got a us → (a ≡ plain ShowLine) × ((b : Request) × (form? vs ≡ got b (closed ∷ us)))
+    then b [] q e = clash e
+    then b (opened ∷ ws) q e = clash e
+    then b (run r ∷ ws) q e = clash e
+    then b (closed ∷ ws) q e = let t : ws ≡ us = cc in (cc, (b, rw (← t) q))
+
+    by : (r : Parsed Request) → form? vs ≡ r → (r andThen λ b ws. close? ws andThen λ u xs. got (plain ShowLine) xs) ≡ got a us → (a ≡ plain ShowLine) × ((b : Request) × (form? vs ≡ got b (closed ∷ us)))
+    by none q e = clash e
+    by (got b ws) q e = then b ws q e
+
+-- ---- the request of a whole line
+whole-reads : (r : Parsed Request) → (whole? r (plain NoShape) .kind ≡ NoShape → ⊥) → (a : Request) × (r ≡ got a []) × (whole? r (plain NoShape) ≡ a)
+whole-reads (got a []) n = (a, refl, refl)
+whole-reads (got a (t ∷ ts)) n = absurd (n refl)
+whole-reads none n = absurd (n refl)
+
+-- a form's request is what the form reads as
+pub form-request : (form : List Token) (a : Request) → form? form ≡ got a [] → requestOf form ≡ a
+unfolding requestOf
+form-request form a e = rw (form-line form a [] e)
+
+-- tokens that ask for one of document 01's forms are such a form
+pub asked-form : (form : List Token) → OfDocument01 (requestOf form .kind) → (a : Request) × (form? form ≡ got a [])
+unfolding requestOf
+asked-form form k =
+    let w = whole-reads (line? form) (not-01 k .1) in
+    by (w .0) (rw (w .2) at k) (read-line form (w .0) [] (w .1))
+  where
+    by : (a : Request) → Of01 a → Read form a [] → (a : Request) × (form? form ≡ got a [])
+    by a k (a-form e) = (a, e)
+    by a k (a-show vs t e) = absurd (not-01 k .0 (ap (λ (r : Request). r .kind) (show-reads vs a [] e .0)))
+
+-- ---- a show
+pub show-found : (ts : List Token) → requestOf ts .kind ≡ ShowLine → (form : List Token) × ShowOf ts form
+unfolding requestOf
+show-found ts k =
+    let w = whole-reads (line? ts) (λ e. not-shown (sym e ∙ k)) in
+    by (w .0) (ap (λ (r : Request). r .kind) (sym (w .2)) ∙ k) (read-line ts (w .0) [] (w .1))
+  where
+    not-shown : NoShape ≡ ShowLine → ⊥
+    not-shown e = let z : _≡_ {A = ℕ} 0 1 = cc in omega arith
+
+    by : (a : Request) → a .kind ≡ ShowLine → Read ts a [] → (form : List Token) × ShowOf ts form
+    by a k (a-form e) = absurd (not-01 (form-kind ts a [] e) .0 k)
+    by a k (a-show vs t e) =
+        let s = show-reads vs a [] e .1 in
+        let f = form-frames vs (s .0) (closed ∷ []) (s .1) in
+        let alone : form? (f .front) ≡ got (s .0) [] = rw (append-nil (f .front)) at (f .again []) in
+        (f .front, (t ∙ ap (λ l. opened ∷ run (bytes "show") ∷ l) (f .same), rw (form-request (f .front) (s .0) alone) (form-kind (f .front) (s .0) [] alone)))
+
+pub show-taken : (ts form : List Token) → ShowOf ts form → requestOf ts .kind ≡ ShowLine
+unfolding requestOf line? head? open? run? show? bare? close? same
+show-taken ts form w =
+    let a = asked-form form (w .1) in
+    let f = form-frames form (a .0) [] (a .1) in
+    let front : f .front ≡ form = sym (f .same ∙ append-nil (f .front)) in
+    let e : form? (form ++ closed ∷ []) ≡ got (a .0) (closed ∷ []) = ap (λ l. form? (l ++ closed ∷ [])) (sym front) ∙ f .again (closed ∷ []) in
+    rw (w .0, e)

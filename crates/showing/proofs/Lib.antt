@@ -1,0 +1,6 @@
+pub mod Framing
+pub mod Shapes
+pub mod Forms
+pub mod Laws
+pub mod Writing
+pub mod Longest

@@ -1,0 +1,61 @@
+-- The laws of show. Proved in proofs/Laws.antt.
+use mathlib.Core.Path.{_≡_}
+use mathlib.Core.List.{List, [], _∷_, _++_}
+use mathlib.Core.Logic.{_↔_}
+use Prim.Native.Nat.{ℕ, _≤_}
+use lib.ListN.{length}
+use Rattle.whole.specs.Bytes.{bytes}
+use Rattle.record.specs.declared.Ship.{Ship}
+use Rattle.record.specs.declared.Load.{Load}
+use Rattle.text.specs.Token.{Token, opened, closed, run, tokens}
+use Rattle.line_codes.specs.declared.Reading.the-variants.{Sound}
+use Rattle.line_codes.specs.Line.{readingOf}
+use Rattle.spelling.specs.Spelling.{spell, bracketGaps}
+use Rattle.request.specs.declared.Kind.{Kind}
+use Rattle.request.specs.declared.Kind.the-variants.{ShipLine, ColumnLine, LoadLine, HoldLine, DropLine, JudgeLine, ClearLine, ShowLine}
+use Rattle.request.specs.Shape.{requestOf}
+use Rattle.showing.specs.Show.{formInside, showReply}
+
+-- document 01's forms
+pub data OfDocument01 : Kind → Type 0 where
+  ship : {s : Ship} → OfDocument01 (ShipLine s)
+  column : OfDocument01 ColumnLine
+  load : {l : Load} → OfDocument01 (LoadLine l)
+  hold : {n : ℕ} → OfDocument01 (HoldLine n)
+  drop : {n : ℕ} → OfDocument01 (DropLine n)
+  judge : OfDocument01 JudgeLine
+  clear : OfDocument01 ClearLine
+
+-- these tokens are a show of this form, which is one of document 01's
+abbrev pub ShowOf : List Token → List Token → Type 0
+ShowOf ts form = (ts ≡ opened ∷ run (bytes "show") ∷ form ++ closed ∷ []) × OfDocument01 (requestOf form .kind)
+
+-- a line is taken as show exactly where it is a show of such a form: not of a show, of nothing, of two forms, of a part alone
+abbrev pub ShowsAForm : Type 0
+ShowsAForm = (ts : List Token) → (requestOf ts .kind ≡ ShowLine) ↔ ((form : List Token) × ShowOf ts form)
+
+-- and that form is the one inside it
+abbrev pub InsideIsTheForm : Type 0
+InsideIsTheForm = (ts form : List Token) → ShowOf ts form → formInside ts ≡ form
+
+-- a form has at most 54 gaps beside brackets (spelling/specs/Spelling.antt): a hold of six parts with eight cells each
+abbrev pub FormsHaveFewGaps : Type 0
+FormsHaveFewGaps = (form : List Token) → OfDocument01 (requestOf form .kind) → bracketGaps form ≤ 54
+
+-- so the reply to a line of at most 2,000 bytes has at most 2,049, its newline with it: 6 fewer for `(show` and `)`, 54 more for gaps
+abbrev pub ShowIsShort : Type 0
+ShowIsShort = (line : List ℕ) → length line ≤ 2000 → requestOf (tokens line) .kind ≡ ShowLine → length (showReply (tokens line)) ≤ 2049
+
+-- some line reaches it
+abbrev pub SomeShowIsSoLong : Type 0
+SomeShowIsSoLong =
+    (line : List ℕ) × (length line ≡ 2000) × (readingOf line ≡ Sound) × (requestOf (tokens line) .kind ≡ ShowLine) × (length (showReply (tokens line)) ≡ 2049)
+
+-- the form inside a line that passes the tests 10 to 13, spelled, passes them too where it has at most 2,000 bytes, and asks for the same
+abbrev pub SpelledIsSound : Type 0
+SpelledIsSound =
+    (line : List ℕ) (form : List Token) → readingOf line ≡ Sound → ShowOf (tokens line) form → length (spell form) ≤ 2000 →
+    readingOf (spell form) ≡ Sound
+
+abbrev pub SpelledAsksTheSame : Type 0
+SpelledAsksTheSame = (line : List ℕ) (form : List Token) → ShowOf (tokens line) form → requestOf (tokens (spell form)) ≡ requestOf form
