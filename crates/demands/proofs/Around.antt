@@ -1,8 +1,8 @@
 -- The bytes of a show line and the line inside it.
 use mathlib.Core.Path.{_≡_, refl, sym, _∙_, ap}
-use mathlib.Core.Bool.{Bool, true, false, cond}
+use mathlib.Core.Bool.{Bool, true, false, cond, _&&_}
 use mathlib.Core.List.{List, [], _∷_, _++_, append-nil}
-use Prim.Native.Nat.{ℕ, suc, _≤_, _<_}
+use Prim.Native.Nat.{ℕ, zero, suc, _≤_, _<_}
 use native.Mathlib.Omega.{arith}
 use lib.ListN.{length, getD, replicate, length-append}
 use Rattle.whole.specs.Bytes.{bytes}
@@ -24,6 +24,19 @@ only-spaces n = ap tokens (sym (append-nil (replicate n 32))) ∙ over-spaces n 
   where
     none : tokens [] ≡ []
     none = unfold tokens in refl
+
+-- spaces around a line add none
+pub spaces-around : (m n : ℕ) (s : List ℕ) → tokens (replicate m 32 ++ (s ++ replicate n 32)) ≡ tokens s
+unfolding within
+spaces-around m n s =
+    over-spaces m (s ++ replicate n 32)
+    ∙ tokens-append s (replicate n 32) (no-run n)
+    ∙ ap (λ ts. tokens s ++ ts) (only-spaces n)
+    ∙ append-nil (tokens s)
+  where
+    no-run : (k : ℕ) → (ends s && startsRun (replicate k 32)) ≡ false
+    no-run zero = and-false (ends s)
+    no-run (suc k) = and-false (ends s)
 
 closed-last : (inner : List ℕ) (n : ℕ) → tokens (inner ++ (41 ∷ replicate n 32)) ≡ tokens inner ++ closed ∷ []
 unfolding within

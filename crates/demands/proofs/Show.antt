@@ -23,7 +23,7 @@ use Rattle.sending.proofs.Alike.{same-tokens-answered-alike}
 use Rattle.demands.specs.Codes.{request, Asks}
 use Rattle.demands.specs.Show.{ShowsAForm, Shown, ShowsTheForm}
 use Rattle.demands.proofs.Asked.{none-applies, passes-all, asked}
-use Rattle.demands.proofs.Around.{Inside, around-tokens, around-found}
+use Rattle.demands.proofs.Around.{Inside, spaces-around, around-tokens, around-found}
 
 -- ---- a line that asks for show
 module _ (line : List ℕ) (lent : ℕ) (a : Asks line lent ShowLine) where
@@ -72,7 +72,7 @@ module _ (line : List ℕ) (lent : ℕ) (a : Asks line lent ShowLine) where
           reply = ap (λ (o : Outcome). o .reply) shown-as;
           so = spelled-so form (form-proper line form (found .1));
           same = form-kept line form (found .1) ∙ sym (there .kept);
-          own = λ w. ap spell (sym (there .kept)) ∙ own-spelling (there .inner) w;
+          own = λ s m n e w. ap spell (sym (there .kept) ∙ ap tokens e ∙ spaces-around m n s) ∙ own-spelling s w;
           fits = rw shown-as (rw (inside-is-the-form (tokens line) form (found .1)) at (show-is-short line (sound-passes line read .long) (a .asked)));
           copied = copies;
         }

@@ -37,12 +37,13 @@ pub record Shown (c : Condition) (line : List ℕ) (o : Outcome) : Type 0 where
   pub inner : List ℕ
   pub around : ShowAround line inner
   pub sound : SoundLine inner
-  -- the reply is that line with single spaces between items and nowhere else, and a newline: a line that is so spelled comes back unchanged
+  -- the reply is that line with single spaces between items and nowhere else, and a newline
   pub spelled : List ℕ
   pub reply : o .reply ≡ spelled ++ 10 ∷ []
   pub so : SoSpelled spelled
   pub same : tokens spelled ≡ tokens inner
-  pub own : SoSpelled inner → spelled ≡ inner
+  -- a form that is so spelled comes back unchanged, however many spaces stand around it
+  pub own : (form : List ℕ) (m n : ℕ) → inner ≡ replicate m 32 ++ (form ++ replicate n 32) → SoSpelled form → spelled ≡ form
   -- it fits into the 2,100 bytes, and where it is no longer than a line may be, it has the outcome of the line that was shown
   pub fits : length (o .reply) ≤ 2049
   pub copied : length spelled ≤ 2000 → (d : Condition) (lent : ℕ) → stepOf d spelled lent ≡ stepOf d inner lent
