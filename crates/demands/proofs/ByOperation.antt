@@ -37,31 +37,18 @@ verdict-code c (Refused code) = refl
 verdict-code c (Given v) = refl
 
 -- ---- every line
--- 14 is given where a line has no shape alone
-only-no-shape : (k : Kind) → isOneOf (codesOf k) 14 ≡ true → k ≡ NoShape
+-- 14 is given where a line has no shape alone, and 16 where it is a show
+only : (k : Kind) → (isOneOf (codesOf k) 14 ≡ true → k ≡ NoShape) × (isOneOf (codesOf k) 16 ≡ true → k ≡ ShowLine)
 unfolding isOneOf
-only-no-shape (ShipLine s) e = cc
-only-no-shape ColumnLine e = cc
-only-no-shape (LoadLine l) e = cc
-only-no-shape (HoldLine n) e = cc
-only-no-shape (DropLine n) e = cc
-only-no-shape JudgeLine e = cc
-only-no-shape ClearLine e = cc
-only-no-shape ShowLine e = cc
-only-no-shape NoShape e = cc
-
--- and 16 where it is a show
-only-show : (k : Kind) → isOneOf (codesOf k) 16 ≡ true → k ≡ ShowLine
-unfolding isOneOf
-only-show (ShipLine s) e = cc
-only-show ColumnLine e = cc
-only-show (LoadLine l) e = cc
-only-show (HoldLine n) e = cc
-only-show (DropLine n) e = cc
-only-show JudgeLine e = cc
-only-show ClearLine e = cc
-only-show ShowLine e = cc
-only-show NoShape e = cc
+only (ShipLine s) = (λ e. cc, λ e. cc)
+only ColumnLine = (λ e. cc, λ e. cc)
+only (LoadLine l) = (λ e. cc, λ e. cc)
+only (HoldLine n) = (λ e. cc, λ e. cc)
+only (DropLine n) = (λ e. cc, λ e. cc)
+only JudgeLine = (λ e. cc, λ e. cc)
+only ClearLine = (λ e. cc, λ e. cc)
+only ShowLine = (λ e. cc, λ e. cc)
+only NoShape = (λ e. cc, λ e. cc)
 
 -- no request has a code that is given before it is looked at
 apart : (ms : List ℕ) (n : ℕ) → all (λ m. not (isOneOf early m)) ms ≡ true → isOneOf ms n ≡ true → isOneOf early n ≡ false
@@ -150,7 +137,7 @@ module _ (c : Condition) (line : List ℕ) (lent : ℕ) where
 
   no-shape : given ≡ 14 → Asks line lent NoShape
   unfolding isOneOf
-  no-shape = one-kind 14 NoShape refl only-no-shape
+  no-shape = one-kind 14 NoShape refl (λ k. only k .0)
 
   -- show
   show-short : Asks line lent ShowLine → lent < 2100 → given ≡ 16
@@ -162,7 +149,7 @@ module _ (c : Condition) (line : List ℕ) (lent : ℕ) where
   sixteen : given ≡ 16 → Asks line lent ShowLine × (lent < 2100)
   unfolding isOneOf
   sixteen e =
-      let a = one-kind 16 ShowLine refl only-show e in
+      let a = one-kind 16 ShowLine refl (λ k. only k .1) e in
       (a, by a (decLe 2100 lent))
     where
       by : Asks line lent ShowLine → Dec (2100 ≤ lent) → lent < 2100

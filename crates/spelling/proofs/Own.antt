@@ -11,34 +11,10 @@ use Rattle.text.specs.Token.{space, opening, closing, inRun, allowed, Token, op
 use Rattle.text.proofs.Runs.{run-token}
 use Rattle.text.proofs.Parts.{tokens-opening, tokens-closing, tokens-space, tokens-last, tokens-more}
 use Rattle.spelling.specs.Spelling.{endsItem, between, spell}
-use Rattle.spelling.specs.SoSpelled.{byteAt, SoSpelled}
+use Rattle.spelling.specs.SoSpelled.{byteAt, Spaced, SoSpelled}
 use Rattle.text.proofs.Sorts.{Sort, isSpace, isOpening, isClosing, isOfRun, sort, not-in-run}
 
--- so spelled, whatever stands at the front
-pub record Spaced (line : List ℕ) : Type 0 where
-  pub bytes : all allowed line ≡ true
-  pub end : byteAt line (length line - 1) ≡ space → ⊥
-  pub behindOpening : (i : ℕ) → byteAt line i ≡ opening → byteAt line (i + 1) ≡ space → ⊥
-  pub beforeClosing : (i : ℕ) → byteAt line i ≡ space → byteAt line (i + 1) ≡ closing → ⊥
-  pub twoTogether : (i : ℕ) → byteAt line i ≡ space → byteAt line (i + 1) ≡ space → ⊥
-  pub runForm : (i : ℕ) → inRun (byteAt line i) ≡ true → byteAt line (i + 1) ≡ opening → ⊥
-  pub twoForms : (i : ℕ) → byteAt line i ≡ closing → byteAt line (i + 1) ≡ opening → ⊥
-  pub formRun : (i : ℕ) → byteAt line i ≡ closing → inRun (byteAt line (i + 1)) ≡ true → ⊥
-
-spaced : (line : List ℕ) → SoSpelled line → Spaced line
-spaced line w =
-    record {
-      bytes = w .bytes;
-      end = w .end;
-      behindOpening = w .behindOpening;
-      beforeClosing = w .beforeClosing;
-      twoTogether = w .twoTogether;
-      runForm = w .runForm;
-      twoForms = w .twoForms;
-      formRun = w .formRun;
-    }
-
--- it is kept behind the first byte
+-- spaces inside a line stay as they are behind its first byte
 next : (b : ℕ) (s : List ℕ) (i : ℕ) → byteAt (b ∷ s) (suc i + 1) ≡ byteAt s (i + 1)
 next b s i =
     let e : suc i + 1 ≡ suc (i + 1) = omega arith in
@@ -163,4 +139,4 @@ own (b ∷ c ∷ s) w n =
     one-more s c (own (c ∷ s) v) (own s (behind-first c s v)) b (first-sort b (c ∷ s) w) (first-sort c s v) w n
 
 pub own-spelling : (line : List ℕ) → SoSpelled line → spell (tokens line) ≡ line
-own-spelling line w = own line (spaced line w) (w .front)
+own-spelling line w = own line (w .spaced) (w .front)

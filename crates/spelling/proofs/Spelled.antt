@@ -9,9 +9,8 @@ use Rattle.whole.specs.Lists.{all, within}
 use Rattle.whole.proofs.Lists.{clash, and-true}
 use Rattle.text.specs.Token.{space, opening, closing, inRun, allowed, Token, opened, closed, run}
 use Rattle.spelling.specs.Spelling.{between, spell, proper}
-use Rattle.spelling.specs.SoSpelled.{byteAt, SoSpelled}
+use Rattle.spelling.specs.SoSpelled.{byteAt, Spaced, SoSpelled}
 use Rattle.text.proofs.Sorts.{not-in-run}
-use Rattle.spelling.proofs.Own.{Spaced}
 
 -- two bytes that may stand side by side
 record Touch (b c : ℕ) : Type 0 where
@@ -228,20 +227,8 @@ no-front (run (b ∷ r) ∷ ts) e f =
     not-in-run b space (and-true (inRun b) (all inRun r) t .0) refl f
 
 pub spelled-so : (ts : List Token) → all proper ts ≡ true → SoSpelled (spell ts)
-spelled-so ts e =
-    let w = spaced-spell ts e in
-    record {
-      bytes = w .bytes;
-      front = no-front ts e;
-      end = w .end;
-      behindOpening = w .behindOpening;
-      beforeClosing = w .beforeClosing;
-      twoTogether = w .twoTogether;
-      runForm = w .runForm;
-      twoForms = w .twoForms;
-      formRun = w .formRun;
-    }
+spelled-so ts e = record { front = no-front ts e; spaced = spaced-spell ts e }
 
 -- so it has allowed bytes only
 pub spell-allowed : (ts : List Token) → all proper ts ≡ true → all allowed (spell ts) ≡ true
-spell-allowed ts e = spelled-so ts e .bytes
+spell-allowed ts e = spaced-spell ts e .bytes

@@ -11,10 +11,10 @@ use Rattle.text.specs.Token.{space, opening, closing, inRun, allowed}
 abbrev pub byteAt : List ℕ → ℕ → ℕ
 byteAt line i = getD line i 0
 
-pub record SoSpelled (line : List ℕ) : Type 0 where
+-- single spaces between items, and nowhere else but perhaps at the front
+pub record Spaced (line : List ℕ) : Type 0 where
   pub bytes : all allowed line ≡ true
-  -- no space at the front nor at the end, none behind an opening bracket, none before a closing one, no two together
-  pub front : byteAt line 0 ≡ space → ⊥
+  -- no space at the end, none behind an opening bracket, none before a closing one, no two together
   pub end : byteAt line (length line - 1) ≡ space → ⊥
   pub behindOpening : (i : ℕ) → byteAt line i ≡ opening → byteAt line (i + 1) ≡ space → ⊥
   pub beforeClosing : (i : ℕ) → byteAt line i ≡ space → byteAt line (i + 1) ≡ closing → ⊥
@@ -23,3 +23,8 @@ pub record SoSpelled (line : List ℕ) : Type 0 where
   pub runForm : (i : ℕ) → inRun (byteAt line i) ≡ true → byteAt line (i + 1) ≡ opening → ⊥
   pub twoForms : (i : ℕ) → byteAt line i ≡ closing → byteAt line (i + 1) ≡ opening → ⊥
   pub formRun : (i : ℕ) → byteAt line i ≡ closing → inRun (byteAt line (i + 1)) ≡ true → ⊥
+
+-- so spelled: and none at the front
+pub record SoSpelled (line : List ℕ) : Type 0 where
+  pub front : byteAt line 0 ≡ space → ⊥
+  pub spaced : Spaced line

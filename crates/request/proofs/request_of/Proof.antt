@@ -1,11 +1,21 @@
 -- `request_of`: the request of a line: the form that it is, or shows, with nothing behind it.
-use mathlib.Core.Path.{sym, _∙_, ap}
-use lib.ListN.{drop}
-use Rattle.text.specs.Token.{tokens}
-use Rattle.items.proofs.Walks.{carries, carries-none, whole-end, whole-more}
-use Rattle.request.specs.declared.Kind.the-variants.{NoShape}
-use Rattle.request.specs.Shape.{plain, formWord, requestOf}
+use mathlib.Core.Path.{_≡_, sym, _∙_, ap}
+use mathlib.Core.Bool.{true, false}
+use mathlib.Core.List.{List}
+use Prim.Native.Nat.{ℕ, _-_, _≤_}
+use lib.ListN.{length, take, drop}
+use Rattle.text.specs.Token.{Token, tokens}
+use Rattle.items.specs.declared.Place.{Place}
+use Rattle.items.specs.declared.Place.the-variants.{At, Nowhere}
+use Rattle.items.specs.Grammar.{Parsed, got, whole?}
+use Rattle.items.specs.Carried.{carry}
+use Rattle.items.specs.Places.{Reads, Ends}
+use Rattle.items.proofs.Walks.{Carries, carries, carries-none, whole-end, whole-more}
+use Rattle.request.specs.declared.Kind.the-variants.{ShowLine, NoShape}
+use Rattle.request.specs.declared.Request.{Request}
+use Rattle.request.specs.Shape.{plain, bare?, formWord, requestOf}
 use Rattle.request.specs.Carried.{carriedRequest}
+use Rattle.request.specs.Word.{FirstWord, word?, formOf}
 use Rattle.request.proofs.Shows.{line-by-word, no-form-read, form-read, show-read, show-carried}
 use borrow.Author.Needs.{needs}
 use Rattle.request.proofs.request_of.Statement.{statement}
@@ -18,77 +28,87 @@ returns c =
     let n = rw (c .before .enum-told .given .1) at (w .first-word .ensures) in
     rw (c .plain .ensures, line-by-word (tokens (w .before .before .args .line .now)), n)
 
+-- the line, and its form's word as it was read, from a place to a place
+abbrev lineOf : tie.After-a → List ℕ
+lineOf k = k .before .before .before .before .args .line .now
+
+abbrev from : tie.After-a → ℕ
+from k = k .a .given .0 .0
+
+abbrev to : tie.After-a → ℕ
+to k = k .a .given .0 .1 .0
+
+abbrev wordOf : tie.After-a → FirstWord
+wordOf k = record { shown = k .a .given .0 .1 .1 .0; word = take (to k - from k) (drop (from k) (lineOf k)) }
+
+word-read : (k : tie.After-a) → Reads (word? (tokens (lineOf k))) (lineOf k) (wordOf k) (to k) × (from k ≤ to k)
+word-read k = rw (k .a .given .1) at (k .before .before .first-word .ensures)
+
 run-of-requires : tie.Need-run-of-requires
-run-of-requires c κs =
-    let k = c .before in
-    let n = rw (k .a .given .1) at (k .before .before .first-word .ensures) in
-    (n .1, n .0 .1)
+run-of-requires c κs = let n = word-read (c .before) in (n .1, n .0 .1)
 
 form-by-requires : tie.Need-form-by-requires
-form-by-requires c κs =
-    let k = c .before .before .before in
-    let n = rw (k .a .given .1) at (k .before .before .first-word .ensures) in
-    n .0 .1
+form-by-requires c κs = word-read (c .before .before .before) .0 .1
+
+-- the form behind it
+abbrev formAt : tie.After-a → Parsed Request
+formAt k = formOf (wordOf k) (tokens (drop (to k) (lineOf k)))
+
+abbrev wordAt : tie.After-form-by → tie.After-a
+wordAt f = f .before .before .before .before
+
+form-ends : (f : tie.After-form-by) (end : Place) → f .form-by .result .end ≡ end → Ends (carry carriedRequest (formAt (wordAt f))) (lineOf (wordAt f)) (f .form-by .result .request) end
+form-ends f end e = rw (← e) (rw (f .before .form-word .ensures ∙ ap formWord (f .before .before .run-of .ensures)) at (f .form-by .ensures))
 
 returns-2 : tie.Need-returns-2
 unfolding carriedRequest
 returns-2 c =
     let f = c .before .before .before in
-    let k = f .before .before .before .before in
-    let line = k .before .before .before .before .args .line .now in
-    let n = rw (k .a .given .1) at (k .before .before .first-word .ensures) in
-    let e = f .before .form-word .ensures ∙ ap formWord (f .before .before .run-of .ensures) in
-    let g = rw e at (f .form-by .ensures) in
-    let m = rw (c .before .enum-told2 .given .1) at g in
-    rw (c .plain2 .ensures, no-form-read (tokens line) _ _ (n .0 .0) (carries-none carriedRequest _ m))
+    let m = carries-none carriedRequest (formAt (wordAt f)) (form-ends f Nowhere (c .before .enum-told2 .given .1)) in
+    rw (c .plain2 .ensures, no-form-read (tokens (lineOf (wordAt f))) _ _ (word-read (wordAt f) .0 .0) m)
+
+-- a form that was read, and the tokens behind it
+module _ (d : tie.After-end) where
+  abbrev word : tie.After-a
+  word = wordAt (d .before .before)
+
+  abbrev rest : List Token
+  rest = tokens (drop (d .end .given .0 .0) (lineOf word))
+
+  end-read : (carry carriedRequest (formAt word) ≡ got (d .before .before .form-by .result .request) rest) × (d .end .given .0 .0 ≤ length (lineOf word))
+  end-read = form-ends (d .before .before) (At (d .end .given .0 .0)) (d .end .given .1)
+
+  carries-form : Carries carriedRequest (formAt word) (d .before .before .form-by .result .request) rest
+  carries-form = carries carriedRequest (formAt word) (d .before .before .form-by .result .request) rest (end-read .0)
+
+  shown-read : wordOf word .shown ≡ true → requestOf (tokens (lineOf word)) ≡ whole? (bare? ShowLine rest) (plain NoShape)
+  shown-read = show-read (tokens (lineOf word)) _ _ (word-read word .0 .0) (carries-form .read) rest (carries-form .is)
+
+  plain-read : wordOf word .shown ≡ false → requestOf (tokens (lineOf word)) ≡ whole? (got (carries-form .read) rest) (plain NoShape)
+  plain-read = form-read (tokens (lineOf word)) _ _ (word-read word .0 .0) (carries-form .read) rest (carries-form .is)
 
 show-request-requires : tie.Need-show-request-requires
-show-request-requires c κs = let m = rw (c .before .before .end .given .1) at (c .before .before .before .before .form-by .ensures) in m .1
+show-request-requires c κs = end-read (c .before .before) .1
 
 returns-3 : tie.Need-returns-3
-returns-3 c =
-    let d = c .before .before .before in
-    let f = d .before .before in
-    let k = f .before .before .before .before in
-    let line = k .before .before .before .before .args .line .now in
-    let n = rw (k .a .given .1) at (k .before .before .first-word .ensures) in
-    let e = f .before .form-word .ensures ∙ ap formWord (f .before .before .run-of .ensures) in
-    let g = rw e at (f .form-by .ensures) in
-    let m = rw (d .end .given .1) at g in
-    let i = carries carriedRequest _ (f .form-by .result .request) (tokens (drop (d .end .given .0 .0) line)) (m .0) in
-    rw (c .show-request .ensures, show-read (tokens line) _ _ (n .0 .0) (i .read) _ (i .is) (c .before .if1 .taken)) (sym (show-carried _))
+returns-3 c = rw (c .show-request .ensures, shown-read (c .before .before .before) (c .before .if1 .taken)) (sym (show-carried _))
 
 ends-at-requires : tie.Need-ends-at-requires
-ends-at-requires c κs = let m = rw (c .before .before .end .given .1) at (c .before .before .before .before .form-by .ensures) in m .1
+ends-at-requires c κs = end-read (c .before .before) .1
 
 returns-4 : tie.Need-returns-4
 returns-4 c =
     let t = c .before .before .before in
     let d = t .before .before in
-    let f = d .before .before in
-    let k = f .before .before .before .before in
-    let line = k .before .before .before .before .args .line .now in
-    let n = rw (k .a .given .1) at (k .before .before .first-word .ensures) in
-    let e = f .before .form-word .ensures ∙ ap formWord (f .before .before .run-of .ensures) in
-    let g = rw e at (f .form-by .ensures) in
-    let m = rw (d .end .given .1) at g in
-    let i = carries carriedRequest _ (f .form-by .result .request) (tokens (drop (d .end .given .0 .0) line)) (m .0) in
-    rw (form-read (tokens line) _ _ (n .0 .0) (i .read) _ (i .is) (t .if1 .left), whole-end (i .read) (plain NoShape) (tokens (drop (d .end .given .0 .0) line)) (sym (c .before .before .ends-at .ensures) ∙ c .before .if2 .taken)) (i .kept)
+    let i = carries-form d in
+    rw (plain-read d (t .if1 .left), whole-end (i .read) (plain NoShape) (rest d) (sym (c .before .before .ends-at .ensures) ∙ c .before .if2 .taken)) (i .kept)
 
 returns-5 : tie.Need-returns-5
 unfolding carriedRequest
 returns-5 c =
     let t = c .before .before .before in
     let d = t .before .before in
-    let f = d .before .before in
-    let k = f .before .before .before .before in
-    let line = k .before .before .before .before .args .line .now in
-    let n = rw (k .a .given .1) at (k .before .before .first-word .ensures) in
-    let e = f .before .form-word .ensures ∙ ap formWord (f .before .before .run-of .ensures) in
-    let g = rw e at (f .form-by .ensures) in
-    let m = rw (d .end .given .1) at g in
-    let i = carries carriedRequest _ (f .form-by .result .request) (tokens (drop (d .end .given .0 .0) line)) (m .0) in
-    rw (c .plain3 .ensures, form-read (tokens line) _ _ (n .0 .0) (i .read) _ (i .is) (t .if1 .left), whole-more (i .read) (plain NoShape) (tokens (drop (d .end .given .0 .0) line)) (sym (c .before .before .ends-at .ensures) ∙ c .before .if2 .left))
+    rw (c .plain3 .ensures, plain-read d (t .if1 .left), whole-more (carries-form d .read) (plain NoShape) (rest d) (sym (c .before .before .ends-at .ensures) ∙ c .before .if2 .left))
 
 pub request-of-spec : {M : Type 1} → statement M
 request-of-spec =
