@@ -54,23 +54,40 @@ file: crates/panel/src/lib.rt
 old: const LEAST_ROOM: usize = 96;
 new: const LEAST_ROOM: usize = 128;
 file: crates/panel/proofs/Answers.antt
-old: heard-none : n < 96 →
-new: heard-none : n < 128 →
+old: step-none : n < 96 →
+new: step-none : n < 128 →
 old: lt-ltb n 96 p
 new: lt-ltb n 128 p
-old: heard-refused : 96 ≤ n →
-new: heard-refused : 128 ≤ n →
-old: heard-refused p f = rw (le-ltb n 96 p
-new: heard-refused p f = rw (le-ltb n 128 p
-old: heard-request : 96 ≤ n →
-new: heard-request : 128 ≤ n →
-old: heard-request p e = rw (le-ltb n 96 p
-new: heard-request p e = rw (le-ltb n 128 p
+old: step-heard : 96 ≤ n →
+new: step-heard : 128 ≤ n →
+old: step-heard p = rw (le-ltb n 96 p
+new: step-heard p = rw (le-ltb n 128 p
+old: step-refused : 96 ≤ n →
+new: step-refused : 128 ≤ n →
+old: step-request : 96 ≤ n →
+new: step-request : 128 ≤ n →
+old: ≡ cond (ltb n 96)
+new: ≡ cond (ltb n 128)
 old: asked-by (ltb n 96)
 new: asked-by (ltb n 128)
 file: crates/panel/proofs/Codes.antt
 old: (ltb lent 96)
 new: (ltb lent 128)
+"""
+
+SHOW_ROOM_2200 = """
+file: crates/panel/specs/Step.antt
+old: showRoom = 2100
+new: showRoom = 2200
+file: crates/panel/src/lib.rt
+old: const SHOW_ROOM: usize = 2100;
+new: const SHOW_ROOM: usize = 2200;
+file: crates/panel/proofs/Codes.antt
+old: (ltb lent 2100)
+new: (ltb lent 2200)
+file: crates/panel/proofs/Effects.antt
+old: by (ltb n 2100)
+new: by (ltb n 2200)
 """
 
 FULL_AT_ONCE = """
@@ -206,6 +223,10 @@ FAULTS = {
     "new_and_old": Fault("the words `new` and `old` exchanged", [("", NEW_AND_OLD)]),
     "ship_forgets_load": Fault("a new ship forgets the load", [edit("storing", "theorem_ship_forgets_load")]),
     "room_128": Fault("15 below 128 bytes", [("", ROOM_128)]),
+    "show_room_2200": Fault("16 below 2,200 bytes", [("", SHOW_ROOM_2200)]),
+    "five_deep_behind_ship": Fault("five deep behind `ship`, four behind `show`", [edit("line_codes", "theorem_five_deep_behind_another_word")]),
+    "space_behind_opening": Fault("a form spelled with a space behind each opening bracket", [edit("spelling", "theorem_space_behind_opening")]),
+    "two_spaces": Fault("a form spelled with two spaces between items", [edit("spelling", "theorem_two_spaces")]),
     "full_at_once": Fault("23 at once, from the first column on", [("", FULL_AT_ONCE)]),
     "hatch_100": Fault("a hatch's depth OPEN + 100", [edit("cells", "theorem_hatch_100")]),
     "whole_millimetres": Fault("a wing's depth rounded up to whole mm", [edit("cells", "theorem_whole_millimetres")]),
