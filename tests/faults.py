@@ -73,6 +73,9 @@ new: asked-by (ltb n 128)
 file: crates/panel/proofs/Codes.antt
 old: (ltb lent 96)
 new: (ltb lent 128)
+file: crates/panel/proofs/Room.antt
+old: le-ltb n 96 (omega arith)
+new: le-ltb n 128 (omega arith)
 """
 
 SHOW_ROOM_2200 = """
@@ -85,9 +88,22 @@ new: const SHOW_ROOM: usize = 2200;
 file: crates/panel/proofs/Codes.antt
 old: (ltb lent 2100)
 new: (ltb lent 2200)
-file: crates/panel/proofs/Effects.antt
-old: by (ltb n 2100)
-new: by (ltb n 2200)
+file: crates/panel/proofs/show_form/Proof.antt
+old: 2100 (omega
+new: 2200 (omega
+old: 2100 (search needs)
+new: 2200 (search needs)
+file: crates/panel/proofs/Room.antt
+old: (p : 2100 ≤ n)
+new: (p : 2200 ≤ n)
+old: ≡ outcomeBy c ts 2100 k h col
+new: ≡ outcomeBy c ts 2200 k h col
+old: le-ltb n 2100 p
+new: le-ltb n 2200 p
+old: ≡ outcomeAfter c line 2100 r
+new: ≡ outcomeAfter c line 2200 r
+old: ≡ stepOf c line 2100
+new: ≡ stepOf c line 2200
 """
 
 FULL_AT_ONCE = """

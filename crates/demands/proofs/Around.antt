@@ -2,9 +2,9 @@
 use mathlib.Core.Path.{_≡_, refl, sym, _∙_, ap}
 use mathlib.Core.Bool.{Bool, true, false, cond, _&&_}
 use mathlib.Core.List.{List, [], _∷_, _++_, append-nil}
-use Prim.Native.Nat.{ℕ, zero, suc, _≤_, _<_}
+use Prim.Native.Nat.{ℕ, zero, suc, _≤_}
 use native.Mathlib.Omega.{arith}
-use lib.ListN.{length, getD, replicate, length-append}
+use lib.ListN.{length, replicate, length-append}
 use Rattle.whole.specs.Bytes.{bytes}
 use Rattle.whole.specs.Lists.{within, all}
 use lib.Dec.{eqb}
@@ -13,7 +13,7 @@ use Rattle.whole.proofs.Lists.{clash, and-true, and-false, all-append}
 use Rattle.text.specs.Token.{allowed, Token, opened, closed, run, inRun, startsRun, glue, tokensWith, tokens, same}
 use Rattle.text.proofs.Runs.{run-token}
 use Rattle.text.proofs.Parts.{ends, tokens-opening, tokens-closing, tokens-space, tokens-append}
-use Rattle.line_codes.specs.Codes.{LetterOrDigit, letter, digit, Allowed, opening, closing, space, ofRun, BeginsWithShow}
+use Rattle.line_codes.specs.Codes.{Allowed, opening, closing, space, ofRun, BeginsWithShow}
 use Rattle.line_codes.proofs.Bytes.{in-run, may-stand}
 use Rattle.line_codes.proofs.Shows.{over-spaces, show-tokens, begins}
 use Rattle.demands.specs.Show.{ShowAround}
@@ -44,22 +44,9 @@ closed-last inner n =
     tokens-append inner (41 ∷ replicate n 32) (and-false (ends inner))
     ∙ ap (λ ts. tokens inner ++ ts) (tokens-closing (replicate n 32) ∙ ap (λ ts. closed ∷ ts) (only-spaces n))
 
-no-letter : LetterOrDigit 41 → ⊥
-no-letter (letter p q) = omega arith
-no-letter (digit p q) = omega arith
-
-begins-around : (line inner : List ℕ) → ShowAround line inner → BeginsWithShow line
-begins-around line inner a =
-    record { before = a .before; inside = a .inside; behind = inner ++ (41 ∷ replicate (a .behind) 32); line = a .bytes; ends = λ p. by inner (a .apart) }
-  where
-    by : (s : List ℕ) → (0 < length s → LetterOrDigit (getD s 0 0) → ⊥) → LetterOrDigit (getD (s ++ (41 ∷ replicate (a .behind) 32)) 0 0) → ⊥
-    by [] f l = no-letter l
-    by (b ∷ s) f l = f (omega arith) l
-
 pub around-tokens : (line inner : List ℕ) → ShowAround line inner → tokens line ≡ opened ∷ run (bytes "show") ∷ tokens inner ++ closed ∷ []
-unfolding begins-around
 around-tokens line inner a =
-    show-tokens line (begins-around line inner a) ∙ ap (λ ts. opened ∷ run (bytes "show") ∷ ts) (closed-last inner (a .behind))
+    show-tokens line (a .begins) ∙ ap (λ ts. opened ∷ run (bytes "show") ∷ ts) (ap tokens (a .rest) ∙ closed-last inner (a .spaces))
 
 -- ---- from the tokens to the bytes: the last bracket, with only spaces behind it
 abbrev lastClosed : List Token → Bool
@@ -183,19 +170,8 @@ module _ (line : List ℕ) (form : List Token) (a : all allowed line ≡ true) (
       let kept = snoc-same (tokens (m .0)) form (sym (closed-last (m .0) (m .1)) ∙ ap tokens (sym (m .2)) ∙ rest-tokens) in
       record {
         inner = m .0;
-        around =
-            record {
-              before = first .before;
-              inside = first .inside;
-              behind = m .1;
-              bytes = first .line ∙ ap (λ (l : List ℕ). replicate (first .before) 32 ++ (40 ∷ (replicate (first .inside) 32 ++ (115 ∷ 104 ∷ 111 ∷ 119 ∷ l)))) (m .2);
-              apart = λ p l. first .ends (omega (arith, ap length (m .2), length-append (m .0) (41 ∷ replicate (m .1) 32))) (first-byte (m .0) (m .1) (m .2) p l);
-            };
+        around = record { begins = first; spaces = m .1; rest = m .2 };
         kept = kept;
         bytes = before-all (m .0) (41 ∷ replicate (m .1) 32) (ap (all allowed) (sym (m .2)) ∙ rest-allowed);
         shorter = omega (arith, ap length (m .2), length-append (m .0) (41 ∷ replicate (m .1) 32), rest-shorter);
       }
-    where
-      first-byte : (inner : List ℕ) (n : ℕ) → rest ≡ inner ++ (41 ∷ replicate n 32) → 0 < length inner → LetterOrDigit (getD inner 0 0) → LetterOrDigit (getD rest 0 0)
-      first-byte [] n f p l = absurd (omega arith)
-      first-byte (b ∷ s) n f p l = rw (ap (λ (x : List ℕ). getD x 0 0) f) l

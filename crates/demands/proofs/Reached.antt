@@ -38,7 +38,7 @@ use Rattle.storing.proofs.Taking.{place-within}
 use Rattle.demands.proofs.Asked.{taken-as}
 use Rattle.operations.proofs.Effects.{HoldPassed, ship-passed, ship-taken, load-passed, load-taken, column-passed, column-taken, hold-passed, hold-taken, drop-passed, drop-taken}
 use Rattle.storing.proofs.Columns.{Fitting, fitting-more, held-more, below-twenty}
-use Rattle.panel.proofs.Effects.{judge-same, show-same}
+use Rattle.panel.proofs.Effects.{judge-same}
 use Rattle.demands.proofs.Sequence.{taken-more}
 use Rattle.demands.proofs.Demand1.{refusals-change-nothing}
 
@@ -153,7 +153,7 @@ module _ (c : Condition) (g : Good c) where
       (record { ship = g .ship; load = g .load; columns = g .columns; holds = put-hold (c .holds) n noHold (g .holds) (p .0) (no-hold (n - 1)) })
   good-by ts lent JudgeLine h col sh sc e = rw (judge-same c (judgedOf c)) g
   good-by ts lent ClearLine h col sh sc e = good-empty
-  good-by ts lent ShowLine h col sh sc e = rw (show-same c ts lent) g
+  good-by ts lent ShowLine h col sh sc e = g
   good-by ts lent NoShape h col sh sc e = absurd (omega arith)
 
   -- any line

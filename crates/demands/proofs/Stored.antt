@@ -27,7 +27,7 @@ use Rattle.judging.specs.Judge.{basisAt, judgedOf}
 use Rattle.judging.proofs.Shown.{refusals, judged-by}
 use Rattle.operations.proofs.Stores.{ship-stored, load-stored, column-stored, hold-stored, hold-dropped}
 use Rattle.panel.specs.Step.{Outcome, verdictGiven, formShown, stepOf}
-use Rattle.panel.proofs.Effects.{judge-same, show-same}
+use Rattle.panel.proofs.Effects.{judge-same}
 use Rattle.demands.specs.Codes.{request, Asks}
 use Rattle.demands.specs.Demands.{Stores, RecordsAreStored, RepliesShowTheCode}
 use Rattle.demands.proofs.Asked.{askedFor, none-applies, short, at-reading, hears, asked, taken-as}
@@ -55,7 +55,7 @@ module _ (c : Condition) (line : List ℕ) (lent : ℕ) where
           drop = λ n e. rw (after (DropLine n) e) (hold-dropped c n (own (DropLine n) e));
           judge = λ e. after JudgeLine e ∙ judge-same c (judgedOf c);
           clear = λ e. rw (after ClearLine e) starts-empty;
-          show = λ e. after ShowLine e ∙ show-same c (tokens line) lent;
+          show = λ e. after ShowLine e;
         }
 
   -- ---- the reply of every line but judge and a show with room for its reply

@@ -2,11 +2,10 @@
 use mathlib.Core.Path.{_≡_}
 use mathlib.Core.List.{List, [], _∷_, _++_}
 use mathlib.Core.Logic.{_↔_}
-use Prim.Native.Nat.{ℕ, _≤_, _<_}
-use lib.ListN.{length, getD, replicate}
-use Rattle.whole.specs.Bytes.{bytes}
+use Prim.Native.Nat.{ℕ, _≤_}
+use lib.ListN.{length, replicate}
 use Rattle.text.specs.Token.{tokens}
-use Rattle.line_codes.specs.Codes.{LetterOrDigit}
+use Rattle.line_codes.specs.Codes.{BeginsWithShow}
 use Rattle.spelling.specs.SoSpelled.{SoSpelled}
 use Rattle.request.specs.declared.Kind.the-variants.{ShowLine}
 use Rattle.showing.specs.Laws.{OfDocument01}
@@ -14,13 +13,11 @@ use Rattle.condition.specs.declared.Condition.{Condition}
 use Rattle.panel.specs.Step.{Outcome, stepOf}
 use Rattle.demands.specs.Codes.{request, SoundLine, Asks}
 
--- `(show LINE)`: spaces, a bracket, spaces, the word, the line inside, a bracket, spaces
+-- `(show LINE)`: a line that begins with the word `show` (line_codes/specs/Codes.antt), and behind it the line inside, a bracket and spaces
 pub record ShowAround (line inner : List ℕ) : Type 0 where
-  pub before : ℕ
-  pub inside : ℕ
-  pub behind : ℕ
-  pub bytes : line ≡ replicate before 32 ++ (40 ∷ (replicate inside 32 ++ (bytes "show" ++ (inner ++ (41 ∷ replicate behind 32)))))
-  pub apart : 0 < length inner → LetterOrDigit (getD inner 0 0) → ⊥
+  pub begins : BeginsWithShow line
+  pub spaces : ℕ
+  pub rest : begins .behind ≡ inner ++ (41 ∷ replicate spaces 32)
 
 -- a line is a show exactly where the line inside it asks for a form of document 01 (14 around anything else: a show, nothing, two forms,
 -- a part alone)

@@ -5,19 +5,9 @@ use Prim.Native.Nat.{ℕ, _+_, _-_, _≤_, _<_}
 use native.Mathlib.Omega.{arith}
 use lib.ListN.{length, take, drop, length-append}
 use lib.Seq.{take-append-add, length-take-le}
-use borrow.Author.Tests.{le-ltb}
-use Rattle.record.specs.declared.Column.{Column}
-use Rattle.record.specs.declared.Hold.{Hold}
-use Rattle.text.specs.Token.{Token, tokens}
-use Rattle.line_codes.specs.declared.Reading.{Reading}
-use Rattle.line_codes.specs.declared.Reading.the-variants.{Sound, TooLong, BadByte, NotOneForm, BadNumber}
-use Rattle.line_codes.specs.Line.{readingOf}
-use Rattle.request.specs.declared.Kind.{Kind}
-use Rattle.request.specs.declared.Kind.the-variants.{ShipLine, ColumnLine, LoadLine, HoldLine, DropLine, JudgeLine, ClearLine, ShowLine, NoShape}
-use Rattle.request.specs.Shape.{requestOf}
 use Rattle.reply.specs.Written.{over}
 use Rattle.condition.specs.declared.Condition.{Condition}
-use Rattle.panel.specs.Step.{outcomeBy, outcomeOf, outcomeAfter, stepOf, conditionAfter, outcomes}
+use Rattle.panel.specs.Step.{stepOf, conditionAfter, outcomes}
 use Rattle.input.specs.Lines.{Cut, cut, lineLength, between}
 use Rattle.input.proofs.Cutting.{cut-more, between-none}
 use Rattle.lines.specs.declared.Feed.{Feed}
@@ -32,31 +22,6 @@ reply-waits l part post w n k p e =
     let z : length w ≡ length w + 0 = omega arith in
     rw (m, take-append-add (take n l) ((w ++ drop (length w) part) ++ post) (length w), append-assoc w (drop (length w) part) post)
     (ap (λ (t : List ℕ). take n l ++ t) (ap (λ (i : ℕ). take i (w ++ (drop (length w) part ++ post))) z ∙ take-append-add w (drop (length w) part ++ post) 0 ∙ append-nil w))
-
--- with room for every reply, the buffer's length makes no difference
-module _ (c : Condition) (n : ℕ) (p : 2100 ≤ n) where
-  any-by : (ts : List Token) (k : Kind) (h : Hold) (col : Column) → outcomeBy c ts n k h col ≡ outcomeBy c ts 2100 k h col
-  any-by ts (ShipLine s) h col = refl
-  any-by ts ColumnLine h col = refl
-  any-by ts (LoadLine l) h col = refl
-  any-by ts (HoldLine m) h col = refl
-  any-by ts (DropLine m) h col = refl
-  any-by ts JudgeLine h col = refl
-  any-by ts ClearLine h col = refl
-  any-by ts ShowLine h col = rw (le-ltb n 2100 p)
-  any-by ts NoShape h col = refl
-
-  any-after : (line : List ℕ) (r : Reading) → outcomeAfter c line n r ≡ outcomeAfter c line 2100 r
-  unfolding outcomeOf
-  any-after line Sound = let r = requestOf (tokens line) in any-by (tokens line) (r .kind) (r .hold) (r .column)
-  any-after line TooLong = refl
-  any-after line BadByte = refl
-  any-after line NotOneForm = refl
-  any-after line BadNumber = refl
-
-  pub any-room : (line : List ℕ) → stepOf c line n ≡ stepOf c line 2100
-  unfolding stepOf
-  any-room line = rw (le-ltb n 96 (omega arith), any-after line (readingOf line))
 
 -- ---- lines after lines
 pub sent-on : (c : Condition) (a b : List (List ℕ)) → conditionAfter c (sent (a ++ b)) ≡ conditionAfter (conditionAfter c (sent a)) (sent b)

@@ -3,7 +3,6 @@ use mathlib.Core.Path.{_≡_, refl, sym, _∙_, ap}
 use mathlib.Core.Bool.{Bool, true, false}
 use mathlib.Core.List.{List}
 use Prim.Native.Nat.{ℕ}
-use native.Mathlib.Omega.{arith}
 use Rattle.whole.proofs.Lists.{and-false}
 use Rattle.text.specs.Token.{Token}
 use Rattle.record.specs.declared.Ship.{Ship}
@@ -62,15 +61,15 @@ module _ (c : Condition) where
 
 -- a show that is carried was read
 carried-by : (k : Kind) → carriedKind k ≡ ShowLine → k ≡ ShowLine
-carried-by (ShipLine s) e = let z : _≡_ {A = ℕ} 0 1 = cc in absurd (omega arith)
-carried-by ColumnLine e = let z : _≡_ {A = ℕ} 0 1 = cc in absurd (omega arith)
-carried-by (LoadLine l) e = let z : _≡_ {A = ℕ} 0 1 = cc in absurd (omega arith)
-carried-by (HoldLine n) e = let z : _≡_ {A = ℕ} 0 1 = cc in absurd (omega arith)
-carried-by (DropLine n) e = let z : _≡_ {A = ℕ} 0 1 = cc in absurd (omega arith)
-carried-by JudgeLine e = let z : _≡_ {A = ℕ} 0 1 = cc in absurd (omega arith)
-carried-by ClearLine e = let z : _≡_ {A = ℕ} 0 1 = cc in absurd (omega arith)
+carried-by (ShipLine s) e = cc
+carried-by ColumnLine e = cc
+carried-by (LoadLine l) e = cc
+carried-by (HoldLine n) e = cc
+carried-by (DropLine n) e = cc
+carried-by JudgeLine e = cc
+carried-by ClearLine e = cc
 carried-by ShowLine e = refl
-carried-by NoShape e = let z : _≡_ {A = ℕ} 0 1 = cc in absurd (omega arith)
+carried-by NoShape e = cc
 
 pub carried-show : (ts : List Token) (r : Request) → r ≡ carriedRequest (requestOf ts) → r .kind ≡ ShowLine → requestOf ts .kind ≡ ShowLine
 unfolding carriedRequest

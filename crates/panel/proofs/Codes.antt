@@ -1,6 +1,6 @@
 -- The codes of each request (document 01) and of every line, and that every one but 00 leaves the condition as it was.
 use mathlib.Core.Path.{_≡_, refl}
-use mathlib.Core.Bool.{true}
+use mathlib.Core.Bool.{Bool, true, false, cond}
 use mathlib.Core.List.{List, [], _∷_}
 use Prim.Native.Nat.{ℕ}
 use lib.Dec.{ltb}
@@ -25,7 +25,7 @@ use Rattle.judging.specs.Judge.{basisAt}
 use Rattle.judging.proofs.Shown.{refusals, judged-by}
 use Rattle.operations.specs.Operations.{Change}
 use Rattle.operations.proofs.Right.{Right, right-taken, right-same, right-if, ship-right, load-right, column-right, hold-right, drop-right}
-use Rattle.panel.specs.Step.{Outcome, verdictGiven, outcomeBy, outcomeOf, outcomeAfter, stepOf}
+use Rattle.panel.specs.Step.{Outcome, verdictGiven, showCode, outcomeBy, outcomeOf, outcomeAfter, stepOf}
 
 -- the codes of each request
 abbrev pub codesOf : Kind → List ℕ
@@ -76,6 +76,11 @@ module _ (c : Condition) where
   unfolding isOneOf all
   right-refusal n e = among refusals (codesOf JudgeLine) n refl e
 
+  show-listed : (x : Bool) → isOneOf (codesOf ShowLine) (cond x 16 0) ≡ true
+  unfolding isOneOf
+  show-listed true = refl
+  show-listed false = refl
+
   module _ (ts : List Token) (lent : ℕ) where
     pub right-by : (k : Kind) (h : Hold) (col : Column) → Right (codesOf k) c (changed (outcomeBy c ts lent k h col))
     unfolding isOneOf
@@ -89,7 +94,7 @@ module _ (c : Condition) where
         (λ n e. right-same c n (right-refusal n e))
         (λ i. right-same c _ (judgement-listed (verdictOf (c .ship) (basisAt c i) .judgement)))
     right-by ClearLine h col = right-taken c _ refl
-    right-by ShowLine h col = right-if c changed (ltb lent 2100) (right-same c 16 refl) (right-same c 0 refl)
+    right-by ShowLine h col = right-same c (showCode lent) (show-listed (ltb lent 2100))
     right-by NoShape h col = right-same c _ refl
 
     pub request-code : (k : Kind) (h : Hold) (col : Column) → isOneOf requestCodes (outcomeBy c ts lent k h col .code) ≡ true

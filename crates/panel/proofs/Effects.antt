@@ -1,9 +1,7 @@
 -- A request that is answered with 00 has its effect.
 use mathlib.Core.Path.{_≡_, refl, sym}
-use mathlib.Core.Bool.{Bool, true, false, cond}
 use mathlib.Core.List.{List}
 use Prim.Native.Nat.{ℕ}
-use lib.Dec.{ltb}
 use borrow.Author.Tests.{lt-leb}
 use Rattle.record.specs.declared.Column.{Column}
 use Rattle.record.specs.declared.Hold.{Hold}
@@ -12,15 +10,13 @@ use Rattle.request.specs.declared.Kind.{Kind}
 use Rattle.request.specs.declared.Kind.the-variants.{ShipLine, ColumnLine, LoadLine, HoldLine, DropLine, JudgeLine, ClearLine, ShowLine, NoShape}
 use Rattle.request.specs.declared.Request.{Request}
 use Rattle.text.specs.Token.{Token}
-use Rattle.showing.specs.Show.{showReply}
 use Rattle.condition.specs.declared.Condition.{Condition}
 use Rattle.judging.specs.declared.Judged.{Judged}
 use Rattle.judging.specs.declared.Judged.the-variants.{Refused, Given}
 use Rattle.judging.specs.Judge.{judgedOf}
-use Rattle.operations.specs.Operations.{refusedWith}
 use Rattle.storing.proofs.Taking.{taken-is}
 use Rattle.operations.proofs.Effects.{ship-effect, load-effect, column-passed, column-effect, hold-passed, hold-effect, drop-passed, drop-effect}
-use Rattle.panel.specs.Step.{answered, verdictGiven, formShown, outcomeBy, outcomeOf}
+use Rattle.panel.specs.Step.{answered, verdictGiven, outcomeBy, outcomeOf}
 use Rattle.effects.specs.Effect.{effectBy, effectOf}
 
 module _ (c : Condition) where
@@ -28,14 +24,6 @@ module _ (c : Condition) where
   pub judge-same : (j : Judged) → verdictGiven c j .after ≡ c
   judge-same (Refused code) = refl
   judge-same (Given v) = refl
-
-  -- nor does show
-  pub show-same : (ts : List Token) (n : ℕ) → formShown c ts n .after ≡ c
-  show-same ts n = by (ltb n 2100)
-    where
-      by : (x : Bool) → cond x (answered (refusedWith 16 c)) (record { code = 0; reply = showReply ts; after = c }) .after ≡ c
-      by true = refl
-      by false = refl
 
   module _ (ts : List Token) (n : ℕ) where
     effect-by : (k : Kind) (h : Hold) (col : Column) → outcomeBy c ts n k h col .code ≡ 0 → effectBy c k h col ≡ outcomeBy c ts n k h col .after
@@ -47,7 +35,7 @@ module _ (c : Condition) where
     effect-by (DropLine m) h col e = rw (drop-passed c m e .0) (drop-effect c m e)
     effect-by JudgeLine h col e = sym (judge-same (judgedOf c))
     effect-by ClearLine h col e = refl
-    effect-by ShowLine h col e = sym (show-same ts n)
+    effect-by ShowLine h col e = refl
     effect-by NoShape h col e = refl
 
     pub effect-is : (r : Request) → outcomeOf c ts n r .code ≡ 0 → effectOf c r ≡ outcomeOf c ts n r .after

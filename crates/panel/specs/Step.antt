@@ -54,9 +54,17 @@ leastRoom = 96
 abbrev pub showRoom : ℕ
 showRoom = 2100
 
--- show, with these tokens in its line and n bytes lent: 16 where they are too few, else the form inside it. It changes nothing
+-- show, with n bytes lent: 16 where they are too few, else 00; and its reply, from a line with these tokens: `(answer 16)`, or the form
+-- inside it
+abbrev pub showCode : (n : ℕ) → ℕ
+showCode n = cond (ltb n showRoom) 16 0
+
+abbrev pub showAnswer : List Token → (n : ℕ) → List ℕ
+showAnswer ts n = cond (ltb n showRoom) (answerReply 16) (showReply ts)
+
+-- it changes nothing
 abbrev pub formShown : Condition → List Token → (n : ℕ) → Outcome
-formShown c ts n = cond (ltb n showRoom) (answered (refusedWith 16 c)) (record { code = 0; reply = showReply ts; after = c })
+formShown c ts n = record { code = showCode n; reply = showAnswer ts n; after = c }
 
 -- by the request of a line with these tokens: 14 where it has no shape
 abbrev pub outcomeBy : Condition → List Token → (n : ℕ) → Kind → Hold → Column → Outcome
@@ -91,11 +99,6 @@ pub record Replies (code : ℕ) (reply : List ℕ) (r : Replied) (before after :
   pub coded : r .code ≡ code
   pub long : r .len ≡ length reply
   pub written : after ≡ over reply before
-
--- the same of a show line with these tokens, in any condition
-abbrev pub ShowReplies : List Token → Replied → (before after : List ℕ) → Type 0
-ShowReplies ts r before after =
-    (c : Condition) → Replies (formShown c ts (length before) .code) (formShown c ts (length before) .reply) r before after
 
 -- what the program hands back is this outcome: condition, code and length, and in the lent buffer the reply over its front, the
 -- bytes behind it as they were

@@ -14,7 +14,7 @@ ghost use Rattle.request.specs.Carried.{carriedRequest};
 ghost use Rattle.hearing.specs.Hearing.{heardOf};
 ghost use Rattle.reply.specs.Replies.{answerReply};
 ghost use Rattle.judging.specs.Judge.{judgedOf};
-ghost use Rattle.panel.specs.Step.{verdictGiven, outcomeOf, stepOf, Replies, ShowReplies, Steps};
+ghost use Rattle.panel.specs.Step.{verdictGiven, showCode, showAnswer, outcomeOf, stepOf, Replies, Steps};
 
 // The least buffer that may be lent for a reply, and for the reply of show, in bytes.
 const LEAST_ROOM: usize = 96;
@@ -65,11 +65,11 @@ fn give_verdict(c: Condition, out: &mut [u8]) -> Replied
     }
 }
 
-// Show replies with the form inside it; 16 where the buffer is too small for any such form.
+// Show replies with the form inside it; 16 where fewer than 2,100 bytes are lent.
 fn show_form(line: &[u8], out: &mut [u8]) -> Replied
     requires { ⌜ requestOf (tokens (now line)) .kind ≡ ShowLine ⌝ }
     requires { ⌜ (length (now line) ≤ 2000) × (96 ≤ length (now out)) ⌝ }
-    ensures { λ r. ⌜ ShowReplies (tokens (now (line .entry))) r (now (out .entry)) (now (out .exit)) ⌝ }
+    ensures { λ r. ⌜ Replies (showCode (length (now (out .entry)))) (showAnswer (tokens (now (line .entry))) (length (now (out .entry)))) r (now (out .entry)) (now (out .exit)) ⌝ }
 {
     if out.len() < SHOW_ROOM {
         return answer_with(16, out);

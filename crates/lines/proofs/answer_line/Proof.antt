@@ -4,7 +4,8 @@ use native.Mathlib.Omega.{arith}
 use lib.ListN.{length, take, drop, length-drop}
 use lib.Seq.{length-take-le}
 use Rattle.reply.proofs.Writing.{over-fits}
-use Rattle.lines.proofs.Taking.{any-room, reply-waits}
+use Rattle.panel.proofs.Room.{any-room}
+use Rattle.lines.proofs.Taking.{reply-waits}
 use borrow.Author.Needs.{needs}
 use Rattle.lines.proofs.answer_line.Statement.{statement}
 use Rattle.lines.proofs.answer_line.Tie as tie

@@ -52,7 +52,7 @@ returns-8 : tie.Need-returns-8
 unfolding outcomeOf
 returns-8 c =
     let k = c .before .before .before .before .before .before .before .before .before .before in
-    rw (c .before .before .before .before .enum-told4 .given .1) (c .before .before .show-form .ensures (k .args .c))
+    rw (c .before .before .before .before .enum-told4 .given .1) (c .before .before .show-form .ensures)
 
 returns-9 : tie.Need-returns-9
 unfolding outcomeOf

@@ -1,4 +1,4 @@
--- `show_form`: show replies with the form inside it; 16 where the buffer is too small for any such form.
+-- `show_form`: show replies with the form inside it; 16 where fewer than 2,100 bytes are lent.
 use mathlib.Core.Path.{refl}
 use native.Mathlib.Omega.{arith}
 use lib.ListN.{length}
@@ -8,7 +8,7 @@ use Rattle.panel.proofs.show_form.Statement.{statement}
 use Rattle.panel.proofs.show_form.Tie as tie
 
 returns : tie.Need-returns
-returns c cond =
+returns c =
     let k = c .before .before .before .before .before .before .before in
     rw (lt-ltb (length (k .args .out .now)) 2100 (omega (arith, c .before .before .before .before .if1 .taken))) (c .before .before .answer-with .ensures)
 
@@ -18,7 +18,7 @@ show-requires c κs =
     (k .pre .0, (k .pre .1 .0, search needs))
 
 returns-2 : tie.Need-returns-2
-returns-2 c cond =
+returns-2 c =
     let k = c .before .before .before .before .before .before .before in
     let s = c .before .before .show in
     rw (le-ltb (length (k .args .out .now)) 2100 (search needs)) (record { coded = refl; long = s .ensures .0; written = s .ensures .1 })
