@@ -384,42 +384,44 @@ fn spaced_to_a_length(chance: &mut Chance, mut line: Vec<u8>) -> Vec<u8> {
     line
 }
 
+/// Lines that no change of a good line brings about.
+const FAULTY_LINES: [&[u8]; 32] = [
+    b"",
+    b" ",
+    b"     ",
+    b"()",
+    b"( )",
+    b"(())",
+    b"((((a))))",
+    b"(((((a)))))",
+    b"(((())))",
+    b"((((()))))",
+    b"judge",
+    b"clear)",
+    b"(clear",
+    b"(drop 00",
+    b"(judge 00 A)",
+    b"(unweigh)",
+    b"(0)",
+    b"(00)",
+    b"(12ab)",
+    b"(ab12)",
+    b"(hold1)",
+    b"\r",
+    b"\0",
+    b")(",
+    b"(judge)\r",
+    b"(Judge)",
+    b"(show)",
+    b"(show (a (b (c (d)))))",
+    b"(show (a (b (c (01)))))",
+    b"(shown (a (b (c (d)))))",
+    b"((show (a (b (c)))))",
+    b"(show (a (b (c (d (e))))))",
+];
+
 /// Lines that are no form's spelling at all, and the smallest forms.
 fn faulty_from_the_start(chance: &mut Chance) -> Vec<u8> {
-    let lines: [&[u8]; 32] = [
-        b"",
-        b" ",
-        b"     ",
-        b"()",
-        b"( )",
-        b"(())",
-        b"((((a))))",
-        b"(((((a)))))",
-        b"(((())))",
-        b"((((()))))",
-        b"judge",
-        b"clear)",
-        b"(clear",
-        b"(drop 00",
-        b"(judge 00 A)",
-        b"(unweigh)",
-        b"(0)",
-        b"(00)",
-        b"(12ab)",
-        b"(ab12)",
-        b"(hold1)",
-        b"\r",
-        b"\0",
-        b")(",
-        b"(judge)\r",
-        b"(Judge)",
-        b"(show)",
-        b"(show (a (b (c (d)))))",
-        b"(show (a (b (c (01)))))",
-        b"(shown (a (b (c (d)))))",
-        b"((show (a (b (c)))))",
-        b"(show (a (b (c (d (e))))))",
-    ];
     match chance.below(6) {
         0 => {
             let length = chance.below(40);
@@ -437,6 +439,6 @@ fn faulty_from_the_start(chance: &mut Chance) -> Vec<u8> {
             line.resize(length, filler);
             line
         }
-        _ => chance.pick(&lines).to_vec(),
+        _ => chance.pick(&FAULTY_LINES).to_vec(),
     }
 }

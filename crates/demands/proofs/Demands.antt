@@ -8,7 +8,7 @@ use Rattle.demands.specs.Demands.{Demands}
 use Rattle.demands.proofs.ByOperation.{codes-by-operation}
 use Rattle.demands.proofs.Demand1.{codes-are-printed, refusals-change-nothing, clear-starts-anew}
 use Rattle.demands.proofs.Stored.{records-are-stored, replies-show-the-code}
-use Rattle.demands.proofs.Show.{shows-a-form, shows-the-form}
+use Rattle.demands.proofs.Show.{shows-a-form, shows-the-form, shapes-are-four-deep}
 use Rattle.demands.proofs.Spaces.{spaces-are-free}
 use Rattle.demands.proofs.Demand2.{weight-is-total}
 use Rattle.demands.proofs.Demand3.{verdicts-hold}
@@ -30,6 +30,7 @@ demands =
       secondRun = second-run;
       showsAForm = shows-a-form;
       showsTheForm = shows-the-form;
+      shapesAreFourDeep = shapes-are-four-deep;
       showRun = show-run;
       recordsCanBeSent = records-can-be-sent;
       spacesAreFree = spaces-are-free;

@@ -9,6 +9,7 @@ use Rattle.text.specs.Token.{Token, tokens}
 use Rattle.line_codes.specs.declared.Reading.the-variants.{Sound}
 use Rattle.line_codes.specs.Line.{readingOf}
 use Rattle.line_codes.specs.Alike.{AllowedLine}
+use Rattle.line_codes.proofs.Forms.{form-found}
 use Rattle.line_codes.proofs.Alike.{sound-passes}
 use Rattle.spelling.specs.Spelling.{spell}
 use Rattle.spelling.proofs.Own.{own-spelling}
@@ -16,12 +17,12 @@ use Rattle.spelling.proofs.Spelled.{spelled-so, spell-allowed}
 use Rattle.request.specs.declared.Kind.the-variants.{ShowLine}
 use Rattle.showing.specs.Laws.{OfDocument01, ShowOf}
 use Rattle.showing.proofs.Forms.{asked-form, show-found, show-taken}
-use Rattle.showing.proofs.Laws.{inside-is-the-form, show-is-short, line-sound, form-proper, form-kept, form-numbers}
+use Rattle.showing.proofs.Laws.{inside-is-the-form, show-is-short, shape-deep, line-sound, form-proper, form-kept, form-numbers}
 use Rattle.condition.specs.declared.Condition.{Condition}
 use Rattle.panel.specs.Step.{Outcome, stepOf}
 use Rattle.sending.proofs.Alike.{same-tokens-answered-alike}
 use Rattle.demands.specs.Codes.{request, Asks}
-use Rattle.demands.specs.Show.{ShowsAForm, Shown, ShowsTheForm}
+use Rattle.demands.specs.Show.{ShowsAForm, Shown, ShowsTheForm, ShapesAreFourDeep}
 use Rattle.demands.proofs.Asked.{none-applies, passes-all, asked}
 use Rattle.demands.proofs.Around.{Inside, spaces-around, around-tokens, around-found}
 
@@ -85,3 +86,7 @@ shows-a-form line lent = (
   λ a. (a .room, a .sound, (there line lent a .inner, there line lent a .around, inner-asks line lent a)),
   λ (room, sound, (inner, around, k)). record { room = room; sound = sound; asked = show-taken (tokens line) (tokens inner) (around-tokens line inner around, k) },
 )
+
+pub shapes-are-four-deep : ShapesAreFourDeep
+shapes-are-four-deep line lent kind a n =
+    form-found 3 line (shape-deep line (sound-passes line (passes-all line (a .sound)) .bytes) (λ e. n (sym (a .asked) ∙ e)))

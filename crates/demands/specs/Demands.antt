@@ -35,7 +35,7 @@ use Rattle.storing.specs.Stores.{ShipStored, LoadStored, ColumnStored, HoldStor
 use Rattle.sending.specs.Within.{Within}
 use Rattle.sending.specs.Laws.{RecordsCanBeSent}
 use Rattle.demands.specs.Codes.{request, Asks, ByOperation}
-use Rattle.demands.specs.Show.{ShowsAForm, ShowsTheForm}
+use Rattle.demands.specs.Show.{ShowsAForm, ShowsTheForm, ShapesAreFourDeep}
 use Rattle.demands.specs.Runs.{FirstRun, SecondRun, ShowRun}
 
 -- ---- Demand 1
@@ -175,6 +175,7 @@ pub record Demands : Type 0 where
   pub secondRun : SecondRun
   pub showsAForm : ShowsAForm
   pub showsTheForm : ShowsTheForm
+  pub shapesAreFourDeep : ShapesAreFourDeep
   pub showRun : ShowRun
   -- the records of a condition within its limits can be sent to an empty panel as lines in the one spelling (sending/specs/Laws.antt)
   pub recordsCanBeSent : RecordsCanBeSent

@@ -114,7 +114,7 @@ SecondRun =
     ∷ "(verdict 00 1998560 1349085 1477 1447262434)\n"
     ∷ [])
 
--- show: each form that it takes and each that it does not, five deep behind `show` alone, numbers as they are written, nothing stored
+-- show: each form that it takes, and what it does not take; five deep behind `show` alone, numbers as they are written, nothing stored
 abbrev pub shows : List String
 shows =
     "(show(ship new 1430 3500))"

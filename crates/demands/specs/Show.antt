@@ -5,9 +5,10 @@ use mathlib.Core.Logic.{_↔_}
 use Prim.Native.Nat.{ℕ, _≤_}
 use lib.ListN.{length, replicate}
 use Rattle.text.specs.Token.{tokens}
-use Rattle.line_codes.specs.Codes.{BeginsWithShow}
+use Rattle.line_codes.specs.Codes.{OneForm, BeginsWithShow}
 use Rattle.spelling.specs.SoSpelled.{SoSpelled}
-use Rattle.request.specs.declared.Kind.the-variants.{ShowLine}
+use Rattle.request.specs.declared.Kind.{Kind}
+use Rattle.request.specs.declared.Kind.the-variants.{ShowLine, NoShape}
 use Rattle.showing.specs.Laws.{OfDocument01}
 use Rattle.condition.specs.declared.Condition.{Condition}
 use Rattle.panel.specs.Step.{Outcome, stepOf}
@@ -25,6 +26,10 @@ abbrev pub ShowsAForm : Type 0
 ShowsAForm =
     (line : List ℕ) (lent : ℕ) →
     Asks line lent ShowLine ↔ ((96 ≤ lent) × SoundLine line × ((inner : List ℕ) × ShowAround line inner × OfDocument01 (request inner .kind)))
+
+-- no line of a shape is five deep: five deep behind `show` turns 12 into 13 or 14, and takes no line
+abbrev pub ShapesAreFourDeep : Type 0
+ShapesAreFourDeep = (line : List ℕ) (lent : ℕ) (kind : Kind) → Asks line lent kind → (kind ≡ NoShape → ⊥) → OneForm 4 line
 
 -- a show with room for its reply: 00, and nothing changed
 pub record Shown (c : Condition) (line : List ℕ) (o : Outcome) : Type 0 where

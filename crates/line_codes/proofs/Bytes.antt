@@ -1,6 +1,6 @@
 -- Code 11: the bytes that a line may have, by the tests of the definitions and by the paper's words.
 use mathlib.Core.Path.{_≡_, refl}
-use mathlib.Core.Bool.{Bool, true, false, _&&_, _||_}
+use mathlib.Core.Bool.{Bool, true, false, _&&_, _||_, or-true}
 use mathlib.Core.List.{List, [], _∷_}
 use Prim.Native.Nat.{ℕ, suc}
 use native.Mathlib.Omega.{arith}
@@ -12,13 +12,9 @@ use Rattle.text.proofs.Sorts.{Sort, isSpace, isOpening, isClosing, isOfRun, sor
 use Rattle.line_codes.specs.Codes.{LetterOrDigit, letter, digit, Allowed, opening, closing, space, ofRun, AllAllowed, OtherByte}
 
 -- ---- letters and digits
-or-right : (x : Bool) → (x || true) ≡ true
-or-right true = refl
-or-right false = refl
-
 pub in-run : {b : ℕ} → LetterOrDigit b → inRun b ≡ true
 in-run {b} (letter p q) = rw (within-by 97 122 b p q)
-in-run {b} (digit p q) = rw (within-by 48 57 b p q) (or-right (isLetter b))
+in-run {b} (digit p q) = rw (within-by 48 57 b p q) (or-true (isLetter b))
 
 pub of-run : (b : ℕ) → inRun b ≡ true → LetterOrDigit b
 of-run b e = by (isLetter b) refl e

@@ -1,5 +1,5 @@
--- Document 01, Codes, Every line, in the paper's own words and numbers: the lines to which 10, 11, 12 and 13 apply. Nothing here rests on
--- the definitions by which the program is proved; proofs/Codes.antt shows that both say the same.
+-- Document 01, Codes, Every line, and document 02, P2, in their own words and numbers: the lines to which 10, 11, 12 and 13 apply. Nothing
+-- here rests on the definitions by which the program is proved; proofs/Codes.antt shows that both say the same.
 use mathlib.Core.Path.{_≡_}
 use mathlib.Core.List.{List, [], _∷_, _++_}
 use mathlib.Core.Logic.{_↔_}

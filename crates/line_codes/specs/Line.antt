@@ -1,4 +1,4 @@
--- Document 01, Codes, Every line: 10 to 13, each test made over the entire line before the next.
+-- Document 01, Codes, Every line: 10 to 13, each test made over the entire line before the next; document 02, P2: five deep behind `show`.
 use mathlib.Core.Bool.{Bool, true, false, cond, not, _||_}
 use mathlib.Core.List.{List, [], _∷_}
 use Prim.Native.Nat.{ℕ, zero, suc, _-_}

@@ -1,6 +1,6 @@
 -- A number's decimal digits are a run that says it.
-use mathlib.Core.Path.{_≡_, refl}
-use mathlib.Core.Bool.{Bool, true, false, not, _&&_, _||_}
+use mathlib.Core.Path.{_≡_}
+use mathlib.Core.Bool.{true, not, _&&_, or-true}
 use mathlib.Core.List.{List, [], _∷_}
 use Prim.Native.Nat.{ℕ, _≤_}
 use native.Mathlib.Omega.{arith}
@@ -16,10 +16,6 @@ use Rattle.reply.specs.Written.{decimal}
 use Rattle.reply.proofs.Shown.{decimal-shown}
 use Rattle.spelling.specs.Spelling.{proper}
 use Rattle.sending.specs.Laws.{DecimalIsARun, DecimalIsReadBack}
-
-or-true : (x : Bool) → (x || true) ≡ true
-or-true true = refl
-or-true false = refl
 
 -- digits are bytes of a run
 digits-run : (r : List ℕ) → all isDigit r ≡ true → all inRun r ≡ true

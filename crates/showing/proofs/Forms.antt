@@ -21,7 +21,7 @@ use Rattle.request.specs.declared.Kind.the-variants.{ShowLine, NoShape}
 use Rattle.request.specs.declared.Request.{Request}
 use Rattle.request.specs.Shape.{plain, ruleNamed, shipBy, ship?, column?, load?, modeNamed, partsBy, parts?, hold?, drop?, bare?, formWord, formBy, form?, show?, line?, requestOf}
 use Rattle.showing.specs.Laws.{OfDocument01, ship, column, load, hold, drop, judge, clear, ShowOf}
-use Rattle.showing.proofs.Framing.{form-frames}
+use Rattle.showing.proofs.Framing.{clash, form-frames}
 
 -- ---- what a form yields
 abbrev Of01 : Request → Type 0
@@ -75,9 +75,6 @@ data Read (ts : List Token) (a : Request) (us : List Token) : Type 0 where
   a-form : form? ts ≡ got a us → Read ts a us
   a-show : (vs : List Token) → ts ≡ opened ∷ run (bytes "show") ∷ vs → show? vs ≡ got a us → Read ts a us
 
-clash : {B : Type 0} {a : Request} {us : List Token} → none ≡ got a us → B
-clash e = let z : _≡_ {A = ℕ} 0 1 = cc in absurd (omega arith)
-
 read-line : (ts : List Token) (a : Request) (us : List Token) → line? ts ≡ got a us → Read ts a us
 unfolding line? form? head? open? run?
 read-line [] a us e = clash e
@@ -92,7 +89,7 @@ read-line (opened ∷ run r ∷ ts) a us e = by (is r "show") refl e
     by true p w = a-show ts (ap (λ q. opened ∷ run q ∷ ts) (same-true r (bytes "show") p)) w
     by false p w = a-form w
 
-form-line : (ts : List Token) (a : Request) (us : List Token) → form? ts ≡ got a us → line? ts ≡ got a us
+pub form-line : (ts : List Token) (a : Request) (us : List Token) → form? ts ≡ got a us → line? ts ≡ got a us
 unfolding line? form? head? open? run? named same
 form-line [] a us e = clash e
 form-line (closed ∷ ts) a us e = clash e
@@ -129,6 +126,11 @@ whole-reads : (r : Parsed Request) → (whole? r (plain NoShape) .kind ≡ NoSha
 whole-reads (got a []) n = (a, refl, refl)
 whole-reads (got a (t ∷ ts)) n = absurd (n refl)
 whole-reads none n = absurd (n refl)
+
+-- a line of a shape is read to its end
+pub shape-read : (ts : List Token) → (requestOf ts .kind ≡ NoShape → ⊥) → (a : Request) × (line? ts ≡ got a [])
+unfolding requestOf
+shape-read ts n = let w = whole-reads (line? ts) n in (w .0, w .1)
 
 -- a form's request is what the form reads as
 pub form-request : (form : List Token) (a : Request) → form? form ≡ got a [] → requestOf form ≡ a

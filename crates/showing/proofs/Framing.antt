@@ -35,7 +35,7 @@ pub record Takes {A : Type 0} (p : List Token → Parsed A) (ts : List Token) (a
 abbrev pub Frames : {A : Type 0} → (List Token → Parsed A) → Type 0
 Frames {A = A} p = (ts : List Token) (a : A) (us : List Token) → p ts ≡ got a us → Takes p ts a us
 
-clash : {A B : Type 0} {a : A} {us : List Token} → none ≡ got a us → B
+pub clash : {A B : Type 0} {a : A} {us : List Token} → none ≡ got a us → B
 clash e = let z : _≡_ {A = ℕ} 0 1 = cc in absurd (omega arith)
 
 read-same : {A : Type 0} {a b : A} {ts us : List Token} → got a ts ≡ got b us → (a ≡ b) × (ts ≡ us)

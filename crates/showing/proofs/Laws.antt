@@ -9,9 +9,9 @@ use lib.Seq.{take-append-add}
 use Rattle.whole.specs.Bytes.{bytes}
 use Rattle.whole.specs.Lists.{all}
 use Rattle.whole.proofs.Lists.{and-true, all-append}
-use Rattle.text.specs.Token.{Token, opened, closed, run, tokens}
+use Rattle.text.specs.Token.{allowed, Token, opened, closed, run, tokens}
 use Rattle.line_codes.specs.declared.Reading.the-variants.{Sound}
-use Rattle.line_codes.specs.Line.{before, isShow, deepest, soundToken, readingOf}
+use Rattle.line_codes.specs.Line.{before, isShow, deepest, oneForm, soundToken, readingOf}
 use Rattle.line_codes.specs.Alike.{AllowedLine}
 use Rattle.line_codes.proofs.Along.{walk-tokens}
 use Rattle.line_codes.proofs.Alike.{sound-numbers}
@@ -21,15 +21,16 @@ use Rattle.spelling.proofs.Reading.{tokens-spell, tokens-proper}
 use Rattle.spelling.proofs.Spelled.{spell-allowed}
 use Rattle.spelling.proofs.Lengths.{inner-length}
 use Rattle.items.specs.Grammar.{got}
+use Rattle.request.specs.declared.Kind.the-variants.{NoShape}
 use Rattle.request.specs.declared.Request.{Request}
 use Rattle.request.specs.Shape.{form?, requestOf}
 use Rattle.showing.specs.Show.{formInside}
-use Rattle.showing.specs.Laws.{ShowOf, ShowsAForm, InsideIsTheForm, FormsHaveFewGaps, ShowIsShort, SpelledIsSound, SpelledAsksTheSame}
-use Rattle.showing.proofs.Shapes.{form-walks, form-gaps}
-use Rattle.showing.proofs.Forms.{asked-form, show-found, show-taken}
+use Rattle.showing.specs.Laws.{ShowOf, TakenAsShow, InsideIsTheForm, FormsHaveFewGaps, ShowIsShort, SpelledIsSound, SpelledAsksTheSame}
+use Rattle.showing.proofs.Shapes.{line-walks, form-gaps}
+use Rattle.showing.proofs.Forms.{shape-read, form-line, asked-form, show-found, show-taken}
 
-pub shows-a-form : ShowsAForm
-shows-a-form ts = (show-found ts, λ w. show-taken ts (w .0) (w .1))
+pub taken-as-show : TakenAsShow
+taken-as-show ts = (show-found ts, λ w. show-taken ts (w .0) (w .1))
 
 pub inside-is-the-form : InsideIsTheForm
 unfolding formInside
@@ -56,8 +57,14 @@ deep-enough false = omega arith
 
 pub line-sound : (s : List ℕ) (form : List Token) (a : Request) → tokens s ≡ form → form? form ≡ got a [] → AllowedLine s → all soundToken form ≡ true → readingOf s ≡ Sound
 line-sound s form a e f l n =
-    let w = form-walks (deepest form) form a (deep-enough (isShow form)) f in
+    let w = line-walks (deepest form) form a (deep-enough (isShow form)) (form-line form a [] f) in
     is-sound s (l .long) (l .bytes) (rw (walk-tokens (deepest (tokens s)) s (l .bytes) before, e, w)) (rw e n)
+
+-- a line of a shape is four deep at most
+pub shape-deep : (line : List ℕ) → all allowed line ≡ true → (requestOf (tokens line) .kind ≡ NoShape → ⊥) → oneForm 4 line ≡ true
+shape-deep line a n =
+    let r = shape-read (tokens line) n in
+    rw (walk-tokens 4 line a before, line-walks 4 (tokens line) (r .0) (omega arith) (r .1))
 
 -- the form, spelled
 pub form-sound : (form : List Token) (a : Request) → form? form ≡ got a [] → all proper form ≡ true → all soundToken form ≡ true → length (spell form) ≤ 2000 → readingOf (spell form) ≡ Sound

@@ -1,5 +1,5 @@
--- A form of document 01 has at most 55 opening brackets, no run directly behind a closing bracket, and is at most four deep. All of it is
--- said of the tokens that a reading leaves, and follows the grammar.
+-- A form of document 01 has at most 55 opening brackets, no run directly behind a closing bracket, and is at most three deep, a show of one four.
+-- All of it is said of the tokens that a reading leaves, and follows the grammar.
 use mathlib.Core.Path.{_≡_, refl, sym, _∙_, ap}
 use mathlib.Core.Bool.{Bool, true, false, cond}
 use mathlib.Core.List.{List, [], _∷_}
@@ -14,6 +14,7 @@ use Rattle.text.specs.Token.{Token, opened, closed, run, numberOf}
 use Rattle.line_codes.specs.Line.{Stand, before, inside, behind, wrong, outOf}
 use Rattle.line_codes.proofs.Along.{along}
 use Rattle.spelling.specs.Spelling.{one, places, bracketGaps}
+use Rattle.spelling.proofs.Lengths.{firstRun}
 use Rattle.items.specs.Grammar.{Parsed, got, none, _andThen_, open?, close?, run?, head?, is, gotNumber, number?, numbers?, lastNumbers?, orElse, items?, someOf, several?}
 use Rattle.parts.specs.declared.CellNamed.{CellNamed}
 use Rattle.parts.specs.declared.CellNamed.the-variants.{As, NoWord}
@@ -27,15 +28,9 @@ use Rattle.request.specs.declared.FormWord.the-variants.{ShipWord, ColumnWord, 
 use Rattle.request.specs.declared.Kind.{Kind}
 use Rattle.request.specs.declared.Kind.the-variants.{JudgeLine, ClearLine}
 use Rattle.request.specs.declared.Request.{Request}
-use Rattle.request.specs.Shape.{ruleNamed, shipBy, ship?, column?, load?, modeNamed, partsBy, parts?, hold?, drop?, bare?, formWord, formBy, form?}
+use Rattle.request.specs.Shape.{ruleNamed, shipBy, ship?, column?, load?, modeNamed, partsBy, parts?, hold?, drop?, bare?, formWord, formBy, form?, show?, line?}
 
 -- ---- the places where a bracket opens, and those where a run stands directly behind a closing bracket
-abbrev firstRun : List Token → Bool
-firstRun [] = false
-firstRun (opened ∷ ts) = false
-firstRun (closed ∷ ts) = false
-firstRun (run r ∷ ts) = true
-
 abbrev here : Token → List Token → ℕ
 here opened ts = 1
 here closed ts = one (firstRun ts)
@@ -63,7 +58,7 @@ leaves-else (leaves p) q = leaves p
 leaves-else nothing q = q
 
 -- `total` is at most k and the count of what is left, and a walk along it, with this many brackets open, ends as the whole walk did
-module _ (most total : ℕ) (deep : 4 ≤ most) (end : Stand) where
+module _ (most total : ℕ) (end : Stand) where
   -- inside an item of the form that the brackets open
   record In (d k : ℕ) (ts : List Token) : Type 0 where
     count : total ≤ k + opens ts
@@ -190,95 +185,111 @@ module _ (most total : ℕ) (deep : 4 ≤ most) (end : Stand) where
   body-leaves d k Voided ts h p = section-leaves d k ts h p
   body-leaves d k Partial ts h p = slack-leaves d k ts p
 
-  part-leaves : (m : Mode) (k : ℕ) (ts : List Token) → Behind 1 k ts → Leaves (Behind 1 (9 + k)) (part? m ts)
-  unfolding part?
-  part-leaves m k ts p =
-      leaves-with (head-leaves 0 k ts (omega arith) p) (λ r us q.
-      leaves-if (is r "part") (weaker (omega arith) (body-leaves 1 (suc k) m us (omega arith) q)) nothing)
+  -- ---- inside this many brackets and those of the form itself
+  module _ (d : ℕ) (deep : d + 2 < most) where
+    part-leaves : (m : Mode) (k : ℕ) (ts : List Token) → Behind (suc d) k ts → Leaves (Behind (suc d) (9 + k)) (part? m ts)
+    unfolding part?
+    part-leaves m k ts p =
+        leaves-with (head-leaves d k ts (omega arith) p) (λ r us q.
+        leaves-if (is r "part") (weaker (omega arith) (body-leaves (suc d) (suc k) m us (omega arith) q)) nothing)
 
-  -- ---- the forms: a hold opens 55 brackets at most
-  hold-by : (n k : ℕ) (m : ModeNamed) (ts : List Token) → In 0 k ts → Leaves (Behind 0 (54 + k)) (partsBy n m ts)
-  unfolding parts?
-  hold-by n k (Mode·As m) ts p =
-      leaves-with (number-leaves 0 k ts p) (λ f us q.
-      leaves-with (several-leave (part? m) 0 9 (part-leaves m) k 6 us (behind-in q)) (λ ps ws w. leaves (more-behind (omega arith) w)))
-  hold-by n k NoMode ts p = nothing
+    -- the forms: a hold opens 54 brackets at most behind its own
+    hold-by : (n k : ℕ) (m : ModeNamed) (ts : List Token) → In d k ts → Leaves (Behind d (54 + k)) (partsBy n m ts)
+    unfolding parts?
+    hold-by n k (Mode·As m) ts p =
+        leaves-with (number-leaves d k ts p) (λ f us q.
+        leaves-with (several-leave (part? m) d 9 (part-leaves m) k 6 us (behind-in q)) (λ ps ws w. leaves (more-behind (omega arith) w)))
+    hold-by n k NoMode ts p = nothing
 
-  hold-leaves : (k : ℕ) (ts : List Token) → In 0 k ts → Leaves (Behind 0 (54 + k)) (hold? ts)
-  unfolding hold?
-  hold-leaves k ts p =
-      leaves-with (number-leaves 0 k ts p) (λ n us q. leaves-with (run-leaves 0 k us q) (λ r ws w. hold-by n k (modeNamed r) ws w))
+    hold-leaves : (k : ℕ) (ts : List Token) → In d k ts → Leaves (Behind d (54 + k)) (hold? ts)
+    unfolding hold?
+    hold-leaves k ts p =
+        leaves-with (number-leaves d k ts p) (λ n us q. leaves-with (run-leaves d k us q) (λ r ws w. hold-by n k (modeNamed r) ws w))
 
-  ship-by : (k : ℕ) (r : RuleNamed) (ts : List Token) → In 0 k ts → Leaves (Behind 0 k) (shipBy r ts)
-  ship-by k (Under w) ts p = leaves-with (last-leave 0 k 2 ts p) (λ v us q. leaves q)
-  ship-by k NoRule ts p = nothing
+    ship-by : (k : ℕ) (r : RuleNamed) (ts : List Token) → In d k ts → Leaves (Behind d k) (shipBy r ts)
+    ship-by k (Under w) ts p = leaves-with (last-leave d k 2 ts p) (λ v us q. leaves q)
+    ship-by k NoRule ts p = nothing
 
-  ship-leaves : (k : ℕ) (ts : List Token) → In 0 k ts → Leaves (Behind 0 k) (ship? ts)
-  unfolding ship?
-  ship-leaves k ts p = leaves-with (run-leaves 0 k ts p) (λ r us q. ship-by k (ruleNamed r) us q)
+    ship-leaves : (k : ℕ) (ts : List Token) → In d k ts → Leaves (Behind d k) (ship? ts)
+    unfolding ship?
+    ship-leaves k ts p = leaves-with (run-leaves d k ts p) (λ r us q. ship-by k (ruleNamed r) us q)
 
-  column-leaves : (k : ℕ) (ts : List Token) → In 0 k ts → Leaves (Behind 0 (suc k)) (column? ts)
-  unfolding column?
-  column-leaves k ts p =
-      leaves-with (number-leaves 0 k ts p) (λ d t1 q1. leaves-with (number-leaves 0 k t1 q1) (λ km t2 q2.
-      leaves-with (open-leaves 0 k t2 (omega arith) (behind-in q2)) (λ u t3 q3. leaves-with (last-leave 1 (suc k) 10 t3 q3) (λ kn t4 q4.
-      leaves-with (close-leaves 0 (suc k) t4 q4) (λ u t5 q5. leaves q5)))))
+    column-leaves : (k : ℕ) (ts : List Token) → In d k ts → Leaves (Behind d (suc k)) (column? ts)
+    unfolding column?
+    column-leaves k ts p =
+        leaves-with (number-leaves d k ts p) (λ v t1 q1. leaves-with (number-leaves d k t1 q1) (λ km t2 q2.
+        leaves-with (open-leaves d k t2 (omega arith) (behind-in q2)) (λ u t3 q3. leaves-with (last-leave (suc d) (suc k) 10 t3 q3) (λ kn t4 q4.
+        leaves-with (close-leaves d (suc k) t4 q4) (λ u t5 q5. leaves q5)))))
 
-  load-leaves : (k : ℕ) (ts : List Token) → In 0 k ts → Leaves (Behind 0 k) (load? ts)
-  unfolding load?
-  load-leaves k ts p = leaves-with (number-leaves 0 k ts p) (λ d us q. leaves-with (last-leave 0 k 2 us q) (λ v ws w. leaves w))
+    load-leaves : (k : ℕ) (ts : List Token) → In d k ts → Leaves (Behind d k) (load? ts)
+    unfolding load?
+    load-leaves k ts p = leaves-with (number-leaves d k ts p) (λ v us q. leaves-with (last-leave d k 2 us q) (λ vs ws w. leaves w))
 
-  drop-leaves : (k : ℕ) (ts : List Token) → In 0 k ts → Leaves (Behind 0 k) (drop? ts)
-  unfolding drop?
-  drop-leaves k ts p =
-      leaves-with (number-leaves 0 k ts p) (λ n us q. leaves-with (close-leaves 0 k us (behind-in q)) (λ u ws w. leaves w))
+    drop-leaves : (k : ℕ) (ts : List Token) → In d k ts → Leaves (Behind d k) (drop? ts)
+    unfolding drop?
+    drop-leaves k ts p =
+        leaves-with (number-leaves d k ts p) (λ n us q. leaves-with (close-leaves d k us (behind-in q)) (λ u ws w. leaves w))
 
-  bare-leaves : (k : ℕ) (kind : Kind) (ts : List Token) → In 0 k ts → Leaves (Behind 0 k) (bare? kind ts)
-  unfolding bare?
-  bare-leaves k kind ts p = leaves-with (close-leaves 0 k ts (behind-in p)) (λ u us q. leaves q)
+    bare-leaves : (k : ℕ) (kind : Kind) (ts : List Token) → In d k ts → Leaves (Behind d k) (bare? kind ts)
+    unfolding bare?
+    bare-leaves k kind ts p = leaves-with (close-leaves d k ts (behind-in p)) (λ u us q. leaves q)
 
-  form-by : (w : FormWord) (ts : List Token) → In 0 1 ts → Leaves (Behind 0 55) (formBy w ts)
-  form-by ShipWord ts p = weaker (omega arith) (ship-leaves 1 ts p)
-  form-by ColumnWord ts p = weaker (omega arith) (column-leaves 1 ts p)
-  form-by LoadWord ts p = weaker (omega arith) (load-leaves 1 ts p)
-  form-by HoldWord ts p = weaker (omega arith) (hold-leaves 1 ts p)
-  form-by DropWord ts p = weaker (omega arith) (drop-leaves 1 ts p)
-  form-by JudgeWord ts p = weaker (omega arith) (bare-leaves 1 JudgeLine ts p)
-  form-by ClearWord ts p = weaker (omega arith) (bare-leaves 1 ClearLine ts p)
-  form-by Form·NoWord ts p = nothing
+    form-by : (k : ℕ) (w : FormWord) (ts : List Token) → In d k ts → Leaves (Behind d (54 + k)) (formBy w ts)
+    form-by k ShipWord ts p = weaker (omega arith) (ship-leaves k ts p)
+    form-by k ColumnWord ts p = weaker (omega arith) (column-leaves k ts p)
+    form-by k LoadWord ts p = weaker (omega arith) (load-leaves k ts p)
+    form-by k HoldWord ts p = weaker (omega arith) (hold-leaves k ts p)
+    form-by k DropWord ts p = weaker (omega arith) (drop-leaves k ts p)
+    form-by k JudgeWord ts p = weaker (omega arith) (bare-leaves k JudgeLine ts p)
+    form-by k ClearWord ts p = weaker (omega arith) (bare-leaves k ClearLine ts p)
+    form-by k Form·NoWord ts p = nothing
 
--- ---- a form from its first bracket to its last
-first-bracket : (most : ℕ) (h : 4 ≤ most) (ts : List Token) → Leaves (In most (opens ts) h (along most before ts) 0 1) (head? ts)
+-- ---- a form from its first bracket to its last, and a line: a form, or a show of one
+abbrev Left : (most : ℕ) → List Token → (k : ℕ) → List Token → Type 0
+Left most ts k us = Behind most (opens ts) (along most before ts) 0 k us
+
+first-bracket : (most : ℕ) (ts : List Token) → Leaves (In most (opens ts) (along most before ts) 0 1) (head? ts)
 unfolding head? open? run? opens along
-first-bracket most h [] = nothing
-first-bracket most h (opened ∷ []) = nothing
-first-bracket most h (opened ∷ opened ∷ ts) = nothing
-first-bracket most h (opened ∷ closed ∷ ts) = nothing
-first-bracket most h (opened ∷ run r ∷ ts) = leaves {ts = ts} (record { count = omega arith; walk = refl })
-first-bracket most h (closed ∷ ts) = nothing
-first-bracket most h (run r ∷ ts) = nothing
+first-bracket most [] = nothing
+first-bracket most (opened ∷ []) = nothing
+first-bracket most (opened ∷ opened ∷ ts) = nothing
+first-bracket most (opened ∷ closed ∷ ts) = nothing
+first-bracket most (opened ∷ run r ∷ ts) = leaves {ts = ts} (record { count = omega arith; walk = refl })
+first-bracket most (closed ∷ ts) = nothing
+first-bracket most (run r ∷ ts) = nothing
 
-form-leaves : (most : ℕ) (h : 4 ≤ most) (ts : List Token) → Leaves (Behind most (opens ts) h (along most before ts) 0 55) (form? ts)
+form-leaves : (most : ℕ) → 2 < most → (ts : List Token) → Leaves (Left most ts 55) (form? ts)
 unfolding form?
-form-leaves most h ts = leaves-with (first-bracket most h ts) (λ r us p. form-by most (opens ts) h (along most before ts) (formWord r) us p)
+form-leaves most h ts = leaves-with (first-bracket most ts) (λ r us p. form-by most (opens ts) (along most before ts) 0 (omega arith) 1 (formWord r) us p)
 
--- tokens that are a form and nothing else
-record Whole (most : ℕ) (ts : List Token) : Type 0 where
-  few : opens ts ≤ 55
-  one-form : along most before ts ≡ behind
+line-leaves : (most : ℕ) → 3 < most → (ts : List Token) → Leaves (Left most ts 56) (line? ts)
+unfolding line? show? form? bare?
+line-leaves most h ts =
+    let n = opens ts in
+    let e = along most before ts in
+    leaves-with (first-bracket most ts) (λ r us p.
+    leaves-if (is r "show")
+    (leaves-with (leaves-with (head-leaves most n e 0 1 us (omega arith) (behind-in most n e p)) (λ q vs w. form-by most n e 1 (omega arith) 2 (formWord q) vs w)) (λ a ws w.
+    leaves-with (close-leaves most n e 0 56 ws w) (λ u xs v. leaves v)))
+    (weaker most n e (omega arith) (form-by most n e 0 (omega arith) 1 (formWord r) us p)))
 
-whole-by : (most : ℕ) (h : 4 ≤ most) (ts : List Token) (r : Parsed Request) → Leaves (Behind most (opens ts) h (along most before ts) 0 55) r → (a : Request) → r ≡ got a [] → Whole most ts
+-- nothing is left
+record Whole (most k : ℕ) (ts : List Token) : Type 0 where
+  few : opens ts ≤ k
+  walks : along most before ts ≡ behind
+
+whole-by : (most k : ℕ) (ts : List Token) (r : Parsed Request) → Leaves (Left most ts k) r → (a : Request) → r ≡ got a [] → Whole most k ts
 unfolding opens along
-whole-by most h ts (got b []) (leaves p) a e = record { few = omega (arith, p .count); one-form = sym (p .walk) }
-whole-by most h ts (got b (u ∷ us)) p a e = let z : _≡_ {A = ℕ} 0 1 = cc in absurd (omega arith)
-whole-by most h ts none p a e = let z : _≡_ {A = ℕ} 0 1 = cc in absurd (omega arith)
+whole-by most k ts (got b []) (leaves p) a e = record { few = omega (arith, p .count); walks = sym (p .walk) }
+whole-by most k ts (got b (u ∷ us)) p a e = let z : _≡_ {A = ℕ} 0 1 = cc in absurd (omega arith)
+whole-by most k ts none p a e = let z : _≡_ {A = ℕ} 0 1 = cc in absurd (omega arith)
 
-form-whole : (most : ℕ) (ts : List Token) (a : Request) → 4 ≤ most → form? ts ≡ got a [] → Whole most ts
-form-whole most ts a h e = whole-by most h ts (form? ts) (form-leaves most h ts) a e
+form-few : (ts : List Token) (a : Request) → form? ts ≡ got a [] → opens ts ≤ 55
+form-few ts a e = whole-by 3 55 ts (form? ts) (form-leaves 3 (omega arith) ts) a e .few
 
--- it is one form, four deep at most
-pub form-walks : (most : ℕ) (ts : List Token) (a : Request) → 4 ≤ most → form? ts ≡ got a [] → along most before ts ≡ behind
-form-walks most ts a h e = form-whole most ts a h e .one-form
+-- a line is one form, four deep at most
+pub line-walks : (most : ℕ) (ts : List Token) (a : Request) → 3 < most → line? ts ≡ got a [] → along most before ts ≡ behind
+line-walks most ts a h e = whole-by most 56 ts (line? ts) (line-leaves most h ts) a e .walks
 
 -- ---- the gaps beside brackets are at most the counted places, and fewer by one where the first token is an opening bracket
 abbrev isOpened : Token → Bool
@@ -316,6 +327,6 @@ no-form (run r) ts a i e = let z : _≡_ {A = ℕ} 0 1 = cc in omega arith
 
 pub form-gaps : (ts : List Token) (a : Request) → form? ts ≡ got a [] → bracketGaps ts ≤ 54
 form-gaps [] a e = unfold places in omega arith
-form-gaps (opened ∷ ts) a e = omega (arith, form-whole 4 (opened ∷ ts) a (omega arith) e .few, gaps-opens opened ts)
+form-gaps (opened ∷ ts) a e = omega (arith, form-few (opened ∷ ts) a e, gaps-opens opened ts)
 form-gaps (closed ∷ ts) a e = absurd (no-form closed ts a refl e)
 form-gaps (run r ∷ ts) a e = absurd (no-form (run r) ts a refl e)

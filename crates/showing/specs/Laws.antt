@@ -31,8 +31,8 @@ abbrev pub ShowOf : List Token → List Token → Type 0
 ShowOf ts form = (ts ≡ opened ∷ run (bytes "show") ∷ form ++ closed ∷ []) × OfDocument01 (requestOf form .kind)
 
 -- a line is taken as show exactly where it is a show of such a form: not of a show, of nothing, of two forms, of a part alone
-abbrev pub ShowsAForm : Type 0
-ShowsAForm = (ts : List Token) → (requestOf ts .kind ≡ ShowLine) ↔ ((form : List Token) × ShowOf ts form)
+abbrev pub TakenAsShow : Type 0
+TakenAsShow = (ts : List Token) → (requestOf ts .kind ≡ ShowLine) ↔ ((form : List Token) × ShowOf ts form)
 
 -- and that form is the one inside it
 abbrev pub InsideIsTheForm : Type 0

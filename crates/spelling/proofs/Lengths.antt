@@ -48,7 +48,7 @@ gaps-split (t ∷ ts) =
     omega arith
 
 -- ---- a line has the bytes of its tokens, and one more wherever two runs follow one another
-abbrev firstRun : List Token → Bool
+abbrev pub firstRun : List Token → Bool
 firstRun [] = false
 firstRun (opened ∷ ts) = false
 firstRun (closed ∷ ts) = false

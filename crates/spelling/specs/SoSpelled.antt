@@ -19,7 +19,7 @@ pub record Spaced (line : List ℕ) : Type 0 where
   pub behindOpening : (i : ℕ) → byteAt line i ≡ opening → byteAt line (i + 1) ≡ space → ⊥
   pub beforeClosing : (i : ℕ) → byteAt line i ≡ space → byteAt line (i + 1) ≡ closing → ⊥
   pub twoTogether : (i : ℕ) → byteAt line i ≡ space → byteAt line (i + 1) ≡ space → ⊥
-  -- one between any two items: a run and a form, two forms, a form and a run never touch
+  -- one between any two items: a run and a form, two forms, a form and a run never touch; two runs that touched would be one
   pub runForm : (i : ℕ) → inRun (byteAt line i) ≡ true → byteAt line (i + 1) ≡ opening → ⊥
   pub twoForms : (i : ℕ) → byteAt line i ≡ closing → byteAt line (i + 1) ≡ opening → ⊥
   pub formRun : (i : ℕ) → byteAt line i ≡ closing → inRun (byteAt line (i + 1)) ≡ true → ⊥

@@ -50,6 +50,7 @@ proper opened = true
 proper closed = true
 proper (run r) = someBytes r && all inRun r
 
+-- 1 where it is so, else 0
 abbrev pub one : Bool → ℕ
 one true = 1
 one false = 0
@@ -59,7 +60,7 @@ unfoldable pub places : (Token → List Token → Bool) → List Token → ℕ
 places f [] = 0
 places f (t ∷ ts) = one (f t ts) + places f ts
 
--- the gaps of a spelling are its spaces. Two runs stand apart in every line; at the other gaps a bracket may touch its neighbour
+-- two runs stand apart in every line
 abbrev pub twoRuns : Token → List Token → Bool
 twoRuns opened ts = false
 twoRuns closed ts = false
@@ -68,6 +69,7 @@ twoRuns (run r) (opened ∷ ts) = false
 twoRuns (run r) (closed ∷ ts) = false
 twoRuns (run r) (run q ∷ ts) = true
 
+-- the gaps of a spelling, its spaces; and those beside a bracket, where a line needs none
 abbrev pub gaps : List Token → ℕ
 gaps ts = places parted ts
 

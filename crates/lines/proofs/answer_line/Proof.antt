@@ -1,4 +1,4 @@
--- `answer_line`: one line: its reply goes behind those that wait.
+-- `answer_line`: one line and what was heard of it: its reply goes behind those that wait.
 use Prim.Native.Nat.{_-_, _≤_}
 use native.Mathlib.Omega.{arith}
 use lib.ListN.{length, take, drop, length-drop}

@@ -1,4 +1,4 @@
--- `answer`: the reply to what was heard, at the front of the lent buffer.
+-- `answer`: the reply to a line and what was heard of it, at the front of the lent buffer.
 use mathlib.Core.Path.{refl}
 use lib.ListN.{length}
 use Rattle.reply.specs.Written.{over}

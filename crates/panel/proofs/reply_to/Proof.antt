@@ -1,4 +1,4 @@
--- `reply_to`: the reply to a request.
+-- `reply_to`: the reply to the request of a line.
 use Rattle.text.specs.Token.{tokens}
 use Rattle.panel.specs.Step.{outcomeOf}
 use Rattle.panel.proofs.Carrying.{carried-show}
