@@ -19,6 +19,20 @@ old: Wing (nth v 0) (nth v 1) (nth v 2) (nth v 3)
 new: Wing (nth v 0) (nth v 2) (nth v 1) (nth v 3)
 """
 
+VOID_AND_GRAIN = """
+file: crates/parts/src/lib.rt
+old:         void: v[2],
+new:         void: v[3],
+old:         grain: v[3],
+new:         grain: v[2],
+file: crates/parts/specs/Shape.antt
+old: void = nth v 2; grain = nth v 3
+new: void = nth v 3; grain = nth v 2
+file: crates/parts/proofs/Records.antt
+old: void = carried (nth v 2); grain = carried (nth v 3)
+new: void = carried (nth v 3); grain = carried (nth v 2)
+"""
+
 KG_AND_FS = """
 file: crates/request/src/lib.rt
 old:         kg: v[0],
@@ -235,6 +249,7 @@ FAULTS = {
     "five_deep": Fault("forms nested five deep are taken", [edit("line_codes", "theorem_five_deep")]),
     "flood_9999": Fault("FLOOD up to 9,999", [edit("limits", "theorem_flood_9999", FLOOD_IN_LAWS)]),
     "dist_and_girder": Fault("DIST and GIRDER of a wing exchanged when read", [("", DIST_AND_GIRDER)]),
+    "void_and_grain": Fault("VOID and GRAIN of a partly filled part exchanged when read", [("", VOID_AND_GRAIN)]),
     "kg_and_fs": Fault("KG and FS of a load exchanged when read", [("", KG_AND_FS)]),
     "new_and_old": Fault("the words `new` and `old` exchanged", [("", NEW_AND_OLD)]),
     "ship_forgets_load": Fault("a new ship forgets the load", [edit("storing", "theorem_ship_forgets_load")]),

@@ -20,7 +20,7 @@ use Rattle.record.specs.declared.Hold.{Hold}
 use Rattle.record.specs.Held.{cellsOf, partsOf}
 use Rattle.record.proofs.Taken.{cells-length}
 use Rattle.limits.specs.Limits.{edge}
-use Rattle.limits.specs.Ranges.{EdgeRange, ShipRange, LoadRange, ColumnRange, CellRange, SectionRange, PartRange}
+use Rattle.limits.specs.Ranges.{EdgeRange, ShipRange, LoadRange, ColumnRange, CellRange, SectionRange}
 use Rattle.limits.proofs.Ranges.{hold-range, place-range}
 use Rattle.text.specs.Token.{Token, opened, closed, same}
 use Rattle.items.specs.Grammar.{Parsed, got, none, open?, close?, run?, head?, named, number?, numbers?, lastNumbers?, items?, several?}
@@ -29,10 +29,10 @@ use Rattle.parts.specs.Shape.{sectionRecord, cell?, section?, slack?, body?, pa
 use Rattle.request.specs.declared.ModeNamed.the-variants.{As}
 use Rattle.request.specs.declared.Kind.the-variants.{ShipLine, LoadLine}
 use Rattle.request.specs.Shape.{plain, columnRequest, holdRequest, ship?, column?, load?, modeNamed, parts?, hold?, form?}
-use Rattle.operations.proofs.Effects.{HoldPassed}
-use Rattle.sending.specs.Printed.{word, number, numbers, form, eachForm, ruleWord, shipTokens, loadTokens, columnTokens, cellTokens, sectionItems, partItems, partTokens, modeWord, holdTokens, refilledPart, refilled}
+use Rattle.sending.specs.Printed.{word, number, numbers, form, eachForm, ruleWord, shipTokens, loadTokens, columnTokens, cellTokens, sectionItems, partItems, partTokens, modeWord, holdTokens}
 use Rattle.sending.proofs.Decimals.{decimal-is-read-back}
 use Rattle.sending.proofs.Lines.{Fine, fine-none, fine-more, fine-token, fine-append, fine-brackets, fine-form, Small, fine-number, fine-numbers, Asks}
+use Rattle.sending.proofs.Refilled.{slackNumbers, refilledPart, refilled, GoodPart, GoodHold}
 
 pub each-from : {A : Type 0} (P : A → Type 0) (l : List A) (d : A) → ((i : ℕ) → i < length l → P (getD l i d)) → Each P l
 each-from P [] d f = tt
@@ -109,17 +109,12 @@ section-body p r n =
       λ us. rw (read-number (p .length) (eachForm cellTokens (cellsOf p) ++ closed ∷ us) (omega arith), read-several cell? cellTokens (λ c. c) 37 print-cell 8 (cellsOf p) us cs, map-id (cellsOf p)),
     )
 
--- a part in its ranges, with eight places
-pub record GoodPart (m : Mode) (p : Part) : Type 0 where
-  pub range : PartRange m p
-  pub places : length (p .cells) ≡ 8
-
 part-body : (m : Mode) (p : Part) → GoodPart m p → Fine 303 (partItems m p) × ((us : List Token) → body? m (partItems m p ++ closed ∷ us) ≡ got (refilledPart m p) us)
 unfolding body? slack?
 part-body Trimmed p g = section-body p (g .range) (g .places)
 part-body Voided p g = section-body p (g .range) (g .places)
 part-body Partial p g =
-    let vs : List ℕ = p .length ∷ p .breadth ∷ p .void ∷ p .grain ∷ [] in
+    let vs = slackNumbers p in
     let r = g .range in
     let s : Each Small vs = (omega arith, (omega arith, (omega arith, (omega arith, tt)))) in
     (fine-more (omega arith) (fine-numbers vs s), λ us. rw (read-last vs us s))
@@ -142,11 +137,6 @@ unfolding all within
 fine-mode Trimmed f = fine-token (word "trimmed") refl refl f
 fine-mode Voided f = fine-more (omega arith) (fine-token (word "voided") refl refl f)
 fine-mode Partial f = fine-token (word "partial") refl refl f
-
--- a hold that is taken at place n, each part with its places
-pub record GoodHold (n : ℕ) (h : Hold) : Type 0 where
-  pub passed : HoldPassed n h
-  pub parts : Several (GoodPart (h .head .mode)) 6 (partsOf h)
 
 pub print-hold : (n : ℕ) (h : Hold) → GoodHold n h → Asks (holdTokens n h) (holdRequest n (refilled h))
 unfolding form? hold? parts? head? open? run? named same all within

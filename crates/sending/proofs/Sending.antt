@@ -5,7 +5,7 @@ use mathlib.Core.List.{List, [], _∷_, _++_, map, append-nil}
 use Prim.Native.Nat.{ℕ, suc, _+_, _-_, _≤_, _<_}
 use native.Mathlib.Omega.{arith}
 use lib.Dec.{eqb}
-use lib.ListN.{length, getD, replicate, length-append}
+use lib.ListN.{length, getD, replicate, length-append, length-map, List·getD-map}
 use lib.Seq.{set-at, append-snoc, length-take-le, getD-take}
 use Rattle.whole.specs.Lists.{all}
 use Rattle.record.specs.declared.Ship.{Ship}
@@ -31,12 +31,12 @@ use Rattle.operations.specs.Operations.{taken}
 use Rattle.operations.proofs.Effects.{ship-passed, ship-taken, load-passed, load-taken, column-passed, column-taken, column-effect, hold-passed, hold-taken}
 use Rattle.panel.specs.Step.{Outcome, answered, outcomeOf, stepOf, conditionAfter, outcomes}
 use Rattle.sending.specs.Within.{Within, ColumnsTaken}
-use Rattle.sending.specs.Printed.{shipTokens, loadTokens, columnTokens, holdTokens, refilled}
-use Rattle.sending.specs.Sending.{formIf, holdForms, sent, refilledPlace}
+use Rattle.sending.specs.Printed.{shipTokens, loadTokens, columnTokens, holdTokens}
+use Rattle.sending.specs.Sending.{formIf, holdForms, asLines, SameHold}
 use Rattle.sending.specs.Laws.{RecordsCanBeSent}
 use Rattle.sending.proofs.Lines.{line-does}
-use Rattle.sending.proofs.Printed.{each-from, GoodPart, GoodHold, print-ship, print-load, print-column, print-hold}
-use Rattle.sending.proofs.Refilled.{refilled-passes}
+use Rattle.sending.proofs.Printed.{each-from, print-ship, print-load, print-column, print-hold}
+use Rattle.sending.proofs.Refilled.{refilled, refilledPlace, GoodPart, GoodHold, same-place, refilled-passes}
 
 -- ---- what one record does
 module _ (lent : ℕ) (room : 96 ≤ lent) (c : Condition) where
@@ -68,15 +68,15 @@ leads-then : {lent : ℕ} {c d e : Condition} {fs gs : List (List Token)} → Le
 leads-then none m = m
 leads-then (one s l) m = one s (leads-then l m)
 
-leads-codes : {lent : ℕ} {c d : Condition} {fs : List (List Token)} → Leads lent c fs d → all (λ (o : Outcome). eqb (o .code) 0) (outcomes c (sent lent fs)) ≡ true
+leads-codes : {lent : ℕ} {c d : Condition} {fs : List (List Token)} → Leads lent c fs d → all (λ (o : Outcome). eqb (o .code) 0) (outcomes c (asLines lent fs)) ≡ true
 unfolding all outcomes
 leads-codes none = refl
 leads-codes (one s l) = rw s (leads-codes l)
 
-leads-after : {lent : ℕ} {c d : Condition} {fs : List (List Token)} → Leads lent c fs d → conditionAfter c (sent lent fs) ≡ d
+leads-after : {lent : ℕ} {c d : Condition} {fs : List (List Token)} → Leads lent c fs d → conditionAfter c (asLines lent fs) ≡ d
 unfolding conditionAfter
 leads-after none = refl
-leads-after {lent = lent} (one {fs = fs} s l) = ap (λ (o : Outcome). conditionAfter (o .after) (sent lent fs)) s ∙ leads-after l
+leads-after {lent = lent} (one {fs = fs} s l) = ap (λ (o : Outcome). conditionAfter (o .after) (asLines lent fs)) s ∙ leads-after l
 
 -- the columns with these behind them
 abbrev withAll : Columns → List Column → Columns
@@ -141,6 +141,7 @@ module _ (c : Condition) (w : Within c) where
       let l = length-take-le (h .head .count) (h .parts) (omega (arith, w .places .partPlaces i p)) in
       record {
         passed = t;
+        places = w .places .partPlaces i p;
         parts = record {
           every = each-from (GoodPart (h .head .mode)) (partsOf h) noPart
               (λ j d. record { range = r .4 j d; places = rw (getD-take (h .head .count) (h .parts) j noPart (omega arith)) (w .places .cellPlaces i p j (omega arith)) });
@@ -148,6 +149,11 @@ module _ (c : Condition) (w : Within c) where
           most = omega arith;
         };
       }
+
+  same-holds : (n : ℕ) → n < 16 → SameHold (getD (c .holds) n noHold) (getD (map refilledPlace (c .holds)) n noHold)
+  same-holds n p =
+      rw (List·getD-map refilledPlace (c .holds) n noHold)
+      (same-place (n + 1) (getD (c .holds) n noHold) (good n (n + 1) (omega arith) (omega (arith, w .places .holdPlaces))))
 
 pub records-can-be-sent : RecordsCanBeSent
 records-can-be-sent c lent w room =
@@ -161,5 +167,16 @@ records-can-be-sent c lent w room =
     let load = load-leads lent room c x y cs hs (λ e. load-passed empty (c .load) (w .load e)) in
     let holds : Leads lent (on c x y cs hs) (holdForms 1 (c .holds)) (on c x y cs (map refilledPlace (c .holds))) =
     rw (w .places .holdPlaces) at (holds-lead lent room c x y cs 0 [] (c .holds) refl (good c w)) in
-    let all = leads-then ship (leads-then (columns .0) (leads-then load holds)) in
-    (leads-codes all, rw (leads-after all) (record { shipped = refl; ship = λ e. rw e; columns = columns .1; loaded = refl; load = λ e. rw e; holds = refl }))
+    let all = leads-then ship (leads-then (columns .0) (leads-then load holds)) in (
+      leads-codes all,
+      rw (leads-after all)
+          (record {
+            shipped = refl;
+            ship = λ e. rw e;
+            columns = columns .1;
+            loaded = refl;
+            load = λ e. rw e;
+            places = length-map (c .holds) refilledPlace ∙ w .places .holdPlaces;
+            holds = same-holds c w;
+          }),
+    )

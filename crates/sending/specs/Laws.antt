@@ -1,12 +1,11 @@
--- The laws of lines that are answered alike, and of the records of a condition, printed and sent. Proved in proofs/: Alike, Decimals,
--- Refilled, Sending.
+-- The laws of lines that are answered alike, and of the records of a condition, printed and sent. Proved in proofs/: Alike, Decimals and
+-- Sending.
 use mathlib.Core.Path.{_≡_}
 use mathlib.Core.Bool.{true}
 use mathlib.Core.List.{List}
 use Prim.Native.Nat.{ℕ, _≤_}
 use lib.Dec.{eqb}
 use Rattle.whole.specs.Lists.{all}
-use Rattle.record.specs.declared.Hold.{Hold}
 use Rattle.text.specs.declared.Number.the-variants.{Is}
 use Rattle.text.specs.Token.{run, tokens, numberOf}
 use Rattle.line_codes.specs.Alike.{AllowedLine}
@@ -16,8 +15,7 @@ use Rattle.condition.specs.declared.Condition.{Condition}
 use Rattle.condition.specs.Condition.{empty}
 use Rattle.panel.specs.Step.{Outcome, stepOf, conditionAfter, outcomes}
 use Rattle.sending.specs.Within.{Within}
-use Rattle.sending.specs.Printed.{holdTokens, refilled}
-use Rattle.sending.specs.Sending.{recordForms, sent, SameRecords}
+use Rattle.sending.specs.Sending.{recordForms, asLines, SameRecords}
 
 -- two lines with the same tokens that neither 10 nor 11 turns away have the same outcome, in every condition and with every buffer
 abbrev pub SameTokensAnsweredAlike : Type 0
@@ -31,13 +29,10 @@ DecimalIsARun = (n : ℕ) → n ≤ 999999999 → proper (run (decimal n)) ≡ t
 abbrev pub DecimalIsReadBack : Type 0
 DecimalIsReadBack = (n : ℕ) → n ≤ 999999999 → numberOf (decimal n) ≡ Is n
 
--- what is read back of a hold is printed as the hold is
-abbrev pub RefilledPrintsTheSame : Type 0
-RefilledPrintsTheSame = (n : ℕ) (h : Hold) → holdTokens n (refilled h) ≡ holdTokens n h
-
--- the records of a condition within its limits, sent to an empty panel: each is taken with 00, and the panel then has the same records
+-- a condition within its limits, as document 01 says it of lines: its records, the columns in their order, sent to a cleared panel, are all
+-- taken with 00. The panel then has the same records
 abbrev pub RecordsCanBeSent : Type 0
 RecordsCanBeSent =
     (c : Condition) (lent : ℕ) → Within c → 96 ≤ lent →
-    (all (λ (o : Outcome). eqb (o .code) 0) (outcomes empty (sent lent (recordForms c))) ≡ true)
-    × SameRecords c (conditionAfter empty (sent lent (recordForms c)))
+    (all (λ (o : Outcome). eqb (o .code) 0) (outcomes empty (asLines lent (recordForms c))) ≡ true)
+    × SameRecords c (conditionAfter empty (asLines lent (recordForms c)))

@@ -17,8 +17,6 @@ use Rattle.record.specs.declared.Hold.{Hold}
 use Rattle.record.specs.Held.{cellsOf, partsOf}
 use Rattle.limits.specs.Limits.{edge}
 use Rattle.text.specs.Token.{Token, opened, closed, run}
-use Rattle.parts.specs.Shape.{sectionRecord, slackRecord}
-use Rattle.request.specs.Shape.{holdRecord}
 use Rattle.reply.specs.Written.{decimal}
 
 abbrev pub word : String → Token
@@ -85,12 +83,3 @@ modeWord Partial = "partial"
 abbrev pub holdTokens : ℕ → Hold → List Token
 holdTokens n h =
     form "hold" (number n ∷ word (modeWord (h .head .mode)) ∷ number (h .head .factor) ∷ eachForm (partTokens (h .head .mode)) (partsOf h))
-
--- a hold as it is read back: what is not printed, unused fields and places, holds fillers
-abbrev pub refilledPart : Mode → Part → Part
-refilledPart Trimmed p = sectionRecord (p .length) (cellsOf p)
-refilledPart Voided p = sectionRecord (p .length) (cellsOf p)
-refilledPart Partial p = slackRecord (p .length ∷ p .breadth ∷ p .void ∷ p .grain ∷ [])
-
-abbrev pub refilled : Hold → Hold
-refilled h = holdRecord (h .head .mode) (h .head .factor) (map (refilledPart (h .head .mode)) (partsOf h))
