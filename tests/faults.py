@@ -45,6 +45,9 @@ new: kg = nth v 1; fs = nth v 0
 file: crates/request/proofs/load_at/Proof.antt
 old: kg = nth x 0; fs = nth x 1
 new: kg = nth x 1; fs = nth x 0
+file: crates/showing/proofs/Framing.antt
+old: kg = nth v 0; fs = nth v 1
+new: kg = nth v 1; fs = nth v 0
 """
 
 NEW_AND_OLD = """
