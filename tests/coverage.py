@@ -1,4 +1,5 @@
-"""Whether the gate's lines reach every code and the figures next to the limits, by the reference's replies."""
+"""Whether the gate's lines reach every code, the figures next to the limits and each thing that show can do, by the
+reference's replies."""
 
 from collections import Counter
 

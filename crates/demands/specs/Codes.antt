@@ -30,7 +30,7 @@ request line = requestOf (tokens line)
 abbrev pub SoundLine : List ℕ → Type 0
 SoundLine line = (length line ≤ 2000) × AllAllowed line × Nested line × (NoNumber line → ⊥)
 
--- a line with room for its reply, to which none of 10 to 13 applies, asks for what its form says
+-- a line lent at least 96 bytes, to which none of 10 to 13 applies, asks for what its form says
 pub record Asks (line : List ℕ) (lent : ℕ) (kind : Kind) : Type 0 where
   pub room : 96 ≤ lent
   pub sound : SoundLine line

@@ -20,8 +20,8 @@ pub record ShowAround (line inner : List ℕ) : Type 0 where
   pub spaces : ℕ
   pub rest : begins .behind ≡ inner ++ (41 ∷ replicate spaces 32)
 
--- a line is a show exactly where the line inside it asks for a form of document 01 (14 around anything else: a show, nothing, two forms,
--- a part alone)
+-- a line to which none of 10 to 13 and 15 applies is a show exactly where the line inside it has the shape of a form of document 01 (14 around
+-- anything else: a show, nothing, two forms, a part alone)
 abbrev pub ShowsAForm : Type 0
 ShowsAForm =
     (line : List ℕ) (lent : ℕ) →
@@ -46,7 +46,8 @@ pub record Shown (c : Condition) (line : List ℕ) (o : Outcome) : Type 0 where
   pub same : tokens spelled ≡ tokens inner
   -- a form that is so spelled comes back unchanged, however many spaces stand around it
   pub own : (form : List ℕ) (m n : ℕ) → inner ≡ replicate m 32 ++ (form ++ replicate n 32) → SoSpelled form → spelled ≡ form
-  -- it fits into the 2,100 bytes, and where it is no longer than a line may be, it has the outcome of the line that was shown
+  -- the reply fits into the 2,100 bytes; without its newline, where it is no longer than a line may be, it has the outcome of the line that was
+  -- shown
   pub fits : length (o .reply) ≤ 2049
   pub copied : length spelled ≤ 2000 → (d : Condition) (lent : ℕ) → stepOf d spelled lent ≡ stepOf d inner lent
 

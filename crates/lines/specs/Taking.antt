@@ -22,7 +22,7 @@ pub record LinesTaken (f : Feed) (waited passed : List ℕ) (r : Feed) (waits : 
   pub count : length (cut passed .lines) + r .left ≡ f .left
 
 -- lines of a block from `at` on. No further line is taken where none is left, where the 65,536 bytes of replies might not hold one
--- reply more, for which 2,100 bytes are lent, or where no further byte 10 stands in the block
+-- reply more, for which at least 2,100 bytes must be left, or where no further byte 10 stands in the block
 pub record FromBlock (f : Feed) (block : List ℕ) (at : ℕ) (out : List ℕ) (r : Taken) (after : List ℕ) : Type 0 where
   pub onward : at ≤ r .at
   pub inside : r .at ≤ length block

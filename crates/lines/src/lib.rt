@@ -9,7 +9,7 @@ ghost use Rattle.hearing.specs.Hearing.{heardOf};
 ghost use Rattle.panel.specs.Step.{stepOf};
 ghost use Rattle.lines.specs.Taking.{FromBlock, RepliedBehind, BegunTaken, Room, FirstMoved, BlockMoved};
 
-// With more bytes of replies than these waiting, the 65,536 might not hold one reply more: 2,100 are lent for each.
+// With more bytes of replies than these waiting, fewer than the 2,100 that a show needs are left of the 65,536.
 const FILLED: usize = 63436;
 
 // What goes from block to block, beside the kept bytes of a line and the replies: the condition, the lines that may still be

@@ -16,7 +16,7 @@ use Rattle.judging.specs.declared.Judged.the-variants.{Refused, Given}
 use Rattle.judging.specs.Judge.{judgedOf}
 use Rattle.storing.proofs.Taking.{taken-is}
 use Rattle.operations.proofs.Effects.{ship-effect, load-effect, column-passed, column-effect, hold-passed, hold-effect, drop-passed, drop-effect}
-use Rattle.panel.specs.Step.{answered, verdictGiven, outcomeBy, outcomeOf}
+use Rattle.panel.specs.Step.{verdictGiven, outcomeBy, outcomeOf}
 use Rattle.effects.specs.Effect.{effectBy, effectOf}
 
 module _ (c : Condition) where

@@ -358,7 +358,7 @@ fn first_word(s: &[u8]) -> Word
     Word::Of(a, q, false)
 }
 
-// The request of a show line, from behind the form inside it: its bracket closes the line. The form's own record is not kept.
+// The request of a show line, from behind the form inside it: the show's own bracket must follow, and end the line. The form's record is not kept.
 fn show_request(s: &[u8], at: usize) -> Request
     requires { ⌜ at ≤ length (now s) ⌝ }
     ensures { λ r. ⌜ r ≡ whole? (bare? Kind.ShowLine (tokens (drop at (now (s .entry))))) (Shape·plain Kind.NoShape) ⌝ }

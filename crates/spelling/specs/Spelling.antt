@@ -60,7 +60,7 @@ unfoldable pub places : (Token → List Token → Bool) → List Token → ℕ
 places f [] = 0
 places f (t ∷ ts) = one (f t ts) + places f ts
 
--- two runs stand apart in every line
+-- a run with a run behind it: these stand apart in every line
 abbrev pub twoRuns : Token → List Token → Bool
 twoRuns opened ts = false
 twoRuns closed ts = false
