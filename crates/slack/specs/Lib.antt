@@ -1,0 +1,4 @@
+pub mod Deck
+pub mod Exact
+pub mod Laws
+pub mod Walk
