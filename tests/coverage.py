@@ -1,6 +1,8 @@
-"""Whether the gate's lines reach every code, the figures next to the limits and each thing that show can do, by the
-reference's replies."""
+"""Whether the gate's lines reach every code, the figures next to the limits, each thing that show can do and each way in
+which void and grain of a partly filled part lie, by the reference's replies."""
 
+import math
+import re
 from collections import Counter
 
 import support
@@ -39,6 +41,23 @@ SOUGHT_OF_SHOW = (
     + [f"reply sent as the next line, with code {code}" for code in ["00", "10", "20"]]
 )
 
+# How void and grain of a partly filled part lie: the 25 degree line meets both sides; or one of the two is a triangle under
+# the deck or on the floor; or the line goes from deck to floor.
+UNCUT, VOID, GRAIN, NEITHER = "uncut", "void a triangle", "grain a triangle", "no triangle"
+# Which of these have sections that are 1 mm of breadth, void or grain apart.
+NEIGHBOURS = [(UNCUT, VOID), (UNCUT, GRAIN), (UNCUT, NEITHER), (VOID, NEITHER), (GRAIN, NEITHER)]
+
+# Each of them in every kind; in the edges next to each other, and triangles next to those with a whole base.
+SOUGHT_OF_DECKS = (
+    [f"{lie} in {kind}" for kind in ["runs", "edges", "damaged", "mixed"] for lie in (UNCUT, VOID, GRAIN, NEITHER)]
+    + [f"{lie} shown" for lie in (UNCUT, VOID, GRAIN, NEITHER)]
+    + [f"{lie}, 1 mm from {other}" for one, two in NEIGHBOURS for lie, other in ((one, two), (two, one))]
+    + [f"triangle with {what}" for what in ["a whole base", "an area that just gives its base", "1 mm² less than a longer base"]]
+)
+
+PARTLY_FILLED = re.compile(rb"\( *part +(\d+) +(\d+) +(\d+) +(\d+) *\)")
+BROADEST, DEEPEST = 40_000, 30_000
+
 # The longest reply of show: a line of 2,000 bytes without `(show` and `)`, and a space before each of 54 inner forms.
 LONGEST_SHOWN = 2_000 - len("(show)") + 54
 
@@ -53,11 +72,12 @@ def check_codes(results):
             before = None
             for line, reply in zip(split_lines(data), run_program(reference, data).replies()):
                 found.update(names_of(line, reply))
+                found.update(names_of_decks(kind, line, reply))
                 if line == before:
                     found[f"reply sent as the next line, with code {code_of(reply)}"] += 1
                 before = reply
                 longest = max(longest, len(reply))
-    for name in SOUGHT + SOUGHT_OF_SHOW:
+    for name in SOUGHT + SOUGHT_OF_SHOW + SOUGHT_OF_DECKS:
         results.report(f"reached {name} ({found[name]} times)", None if found[name] else "never")
     missing = sorted(set(range(256)) - byte_values)
     results.report("reached every byte value", f"not {missing}" if missing else None)
@@ -162,3 +182,51 @@ def names_of_length(length, code):
     if length == 2_001:
         return ["line of 2001 bytes"]
     return ["line above 60000 bytes"] if length > 60_000 else []
+
+
+def names_of_decks(kind, line, reply):
+    """Of the partly filled parts in a hold that is taken, or that is shown and within its limits."""
+    if b"partial" not in line or not (reply == b"(answer 00)" or is_shown(reply)):
+        return []
+    sections = [tuple(int(number) for number in part[1:]) for part in PARTLY_FILLED.findall(line)]
+    sections = [section for section in sections if within_limits(*section)]
+    if is_shown(reply):
+        return [f"{lie(*section)} shown" for section in sections] if kind == "shows" else []
+    names = [f"{lie(*section)} in {kind}" for section in sections]
+    return names + [name for section in sections for name in names_of_edges(*section)] if kind == "edges" else names
+
+
+def within_limits(breadth, void, grain):
+    return 1 <= breadth <= BROADEST and 1 <= void <= DEEPEST and 1 <= grain <= DEEPEST
+
+
+def lie(breadth, void, grain):
+    """How void and grain lie. Half the breadth times the slope is 46,631/200,000 of the breadth."""
+    least, height = min(void, grain), void + grain
+    if 46_631 * breadth <= 200_000 * least:
+        return UNCUT
+    if 93_262 * breadth * least <= 100_000 * height * height:
+        return VOID if void < grain else GRAIN
+    return NEITHER
+
+
+def names_of_edges(breadth, void, grain):
+    """Of a section: what lies otherwise where it is 1 mm broader, narrower, deeper or flatter; and next to a whole base."""
+    lies, area = lie(breadth, void, grain), breadth * min(void, grain)
+    steps = [(1, 0, 0), (-1, 0, 0), (0, 1, 0), (0, -1, 0), (0, 0, 1), (0, 0, -1)]
+    beside = [(breadth + b, void + v, grain + g) for b, v, g in steps if within_limits(breadth + b, void + v, grain + g)]
+    names = [f"{lies}, 1 mm from {other}" for other in {lie(*section) for section in beside} - {lies}]
+    if lies in (VOID, GRAIN):
+        base = whole_base(area)
+        if 200_000 * area == 46_631 * base * base:
+            names.append("triangle with a whole base")
+        if whole_base(area - 1) < base:
+            names.append("triangle with an area that just gives its base")
+        if whole_base(area + 1) > base:
+            names.append("triangle with 1 mm² less than a longer base")
+    return names
+
+
+def whole_base(area):
+    """The base of a triangle of this area, rounded down to whole mm."""
+    return math.isqrt(200_000 * area // 46_631)

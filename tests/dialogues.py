@@ -32,6 +32,7 @@ IN_WORDS = {
     ("COMMISSIONING.md", "(ship old 1050 2860)"): ["(clear)"],
     ("COMMISSIONING.md", "(ship new 500 3500)"): CONDITION_A,
     ("COMMISSIONING.md", "(judge)" + 1_994 * " "): CONDITION_A,
+    ("COMMISSIONING.md", "(show(hold 2 partial 12500(part 10000   12000 3000 6000)))"): CONDITION_A,
     ("COMMISSIONING.md", COLUMN.format(49_000)): [COLUMN.format(d) for d in range(32_000, 49_000, 1_000)],
 }
 

@@ -190,7 +190,7 @@ pub fn roundings_up(chance: &mut Chance) -> Vec<String> {
     for _ in 0..6 {
         let breadth = chance.pick(&[1, 2, 100, 1_000, 2_000, 10_000, 12_000, 20_000, 39_999, 40_000]);
         let length = chance.pick(&[1, 2, 3, 100, 1_000, 15_625, 50_000, 60_000]);
-        let partial = Part::PartlyFilled { length, breadth, void: 1, grain: 1 };
+        let partial = Part::PartlyFilled { length, breadth, void: wanted::DEEP, grain: wanted::DEEP };
         let section = Part::Section { length, cells: vec![Cell::Void { width: 10_000, depth: 500, lip: 5_000 }] };
         let sf = chance.pick(&[5_000, 8_000, 9_999, 10_000, 10_001, 11_200, 12_500, 40_000]);
         let hold = match chance.below(3) {

@@ -2,6 +2,7 @@
 
 use crate::chance::Chance;
 use crate::edge_arms;
+use crate::edge_decks;
 use crate::edge_figures;
 use crate::edge_voids;
 use crate::shows;
@@ -10,7 +11,7 @@ use crate::spelling;
 type Family = fn(&mut Chance) -> Vec<String>;
 
 /// Single fields have a greater share, since there are many of them.
-const FAMILIES: [Family; 30] = [
+const FAMILIES: [Family; 36] = [
     edge_figures::field_limits,
     edge_figures::field_limits,
     edge_figures::field_limits,
@@ -36,6 +37,12 @@ const FAMILIES: [Family; 30] = [
     edge_voids::wing_depths,
     edge_voids::wings_next_to_the_most_held,
     edge_voids::roundings_up,
+    edge_decks::depths_at_the_reach,
+    edge_decks::triangles_at_the_height,
+    edge_decks::void_and_grain_alike,
+    edge_decks::bases_at_whole_mm,
+    edge_decks::moments_without_rest,
+    edge_decks::greatest_and_least_sizes,
     edge_figures::displacements_at_columns,
     edge_figures::twenty_columns,
     edge_figures::columns_not_above,

@@ -11,6 +11,7 @@
 mod chance;
 mod damage;
 mod edge_arms;
+mod edge_decks;
 mod edge_figures;
 mod edge_voids;
 mod edges;
@@ -26,6 +27,8 @@ mod arms;
 #[path = "../reference/code.rs"]
 #[allow(dead_code)]
 mod code;
+#[path = "../reference/deck.rs"]
+mod deck;
 #[path = "../reference/grain.rs"]
 #[allow(dead_code)]
 mod grain;

@@ -103,12 +103,8 @@ fn likely_part(chance: &mut Chance, mode: Mode) -> Part {
     let length = chance.between(1_500, 16_000);
     if mode == Mode::Partial {
         let breadth = chance.between(5_000, 24_000);
-        return Part::PartlyFilled {
-            length,
-            breadth,
-            void: chance.between(500, 9_000),
-            grain: chance.between(500, 15_000),
-        };
+        let void = depth_reached_or_not(chance, breadth, 9_000);
+        return Part::PartlyFilled { length, breadth, void, grain: depth_reached_or_not(chance, breadth, 15_000) };
     }
     let wing = |chance: &mut Chance| Cell::Wing {
         width: chance.between(2_000, 7_000),
@@ -135,6 +131,22 @@ fn likely_part(chance: &mut Chance, mode: Mode) -> Part {
     Part::Section { length, cells: with_a_lip_that_fits(chance, cells) }
 }
 
+/// The greatest depth of void or grain that the 25 degree line reaches, over half the breadth.
+pub fn depth_reached(breadth: i128) -> i128 {
+    46_631 * breadth / 200_000
+}
+
+/// A depth of void or grain that the line reaches, or one that it does not reach. Of void and grain it then reaches
+/// neither, one or both, and each way in which they can lie comes often.
+fn depth_reached_or_not(chance: &mut Chance, breadth: i128, most: i128) -> i128 {
+    let reached = depth_reached(breadth);
+    if chance.one_in(2) {
+        chance.between(1, reached.max(1))
+    } else {
+        chance.between(reached + 1, most.max(reached + 1))
+    }
+}
+
 /// A hold with any figures within the limits; most of them fit.
 pub fn odd_hold(chance: &mut Chance) -> Hold {
     let mode = mode(chance);
@@ -153,12 +165,11 @@ pub fn odd_hold(chance: &mut Chance) -> Hold {
 pub fn odd_part(chance: &mut Chance, mode: Mode) -> Part {
     let length = chance.odd(1, 60_000);
     if mode == Mode::Partial {
-        return Part::PartlyFilled {
-            length,
-            breadth: chance.odd(1, 40_000),
-            void: chance.odd(1, 30_000),
-            grain: chance.odd(1, 30_000),
-        };
+        let breadth = chance.odd(1, 40_000);
+        let by_breadth = chance.one_in(2);
+        let mut depth =
+            || if by_breadth { depth_reached_or_not(chance, breadth, 30_000) } else { chance.odd(1, 30_000) };
+        return Part::PartlyFilled { length, breadth, void: depth(), grain: depth() };
     }
     Part::Section { length, cells: odd_cells(chance) }
 }

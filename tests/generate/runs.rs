@@ -26,7 +26,7 @@ pub fn run(chance: &mut Chance) -> Vec<Vec<u8>> {
     for _ in 0..chance.below(5) {
         records.push(hold(chance, likely));
     }
-    if chance.one_in(4) {
+    if chance.one_in(4) && !records.is_empty() {
         // Columns must keep their order; the other records may come at any place.
         let first = records.remove(0);
         let place = chance.below(records.len() + 1);

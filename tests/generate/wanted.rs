@@ -44,8 +44,11 @@ impl Wanted {
     }
 }
 
-/// The heaviest part of a partial hold.
-const HEAVIEST: Part = Part::PartlyFilled { length: 60_000, breadth: 40_000, void: 1, grain: 1 };
+/// A depth of void and of grain that the 25 degree line does not reach at any breadth.
+pub const DEEP: i128 = 10_000;
+
+/// A heavy part of a partial hold: the longest and broadest, not cut by deck or floor.
+const HEAVY: Part = Part::PartlyFilled { length: 60_000, breadth: 40_000, void: DEEP, grain: DEEP };
 
 /// Sections from heavy to light; the last is below 10⁹ mm³, so that one more mm of length adds at most 1 kg·m.
 const SECTIONS: [Cell; 4] = [
@@ -59,7 +62,7 @@ const SECTIONS: [Cell; 4] = [
 pub fn holds_of_weight(total: i128) -> Vec<Hold> {
     let mut holds = Vec::new();
     let mut rest = total;
-    let heavy = Hold { n: 0, mode: Mode::Partial, sf: 10_000, parts: vec![HEAVIEST] };
+    let heavy = Hold { n: 0, mode: Mode::Partial, sf: 10_000, parts: vec![HEAVY] };
     let heavy_weight = grain::weight_moment(&heavy).expect("a partial hold always fits");
     while rest > heavy_weight {
         holds.push(Hold { n: holds.len() as i128 + 1, ..heavy.clone() });

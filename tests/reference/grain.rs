@@ -3,6 +3,7 @@
 //! Lengths are in mm, void depths in tenths of a mm, areas in mm², section moments in mm³, part and hold moments in
 //! thousandths of m⁴, weight moments in kg·m.
 
+use crate::deck;
 use crate::rounding::{rounded_down, rounded_up};
 use crate::shape::{Cell, Hold, Mode, Part, MOST_CELLS};
 
@@ -18,11 +19,9 @@ const LEAST_WING_DEPTH: i128 = 100;
 const TENTHS: i128 = 10;
 
 /// Slopes are so many hundred-thousandths.
-const SLOPE_UNIT: i128 = 100_000;
+pub const SLOPE_UNIT: i128 = 100_000;
 /// The slope of 15 degrees.
 const SLOPE_15: i128 = 26_795;
-/// The slope of 25 degrees.
-const SLOPE_25: i128 = 46_631;
 
 /// mm⁴ in a thousandth of m⁴.
 const MM4_IN_THOUSANDTH: i128 = 1_000_000_000;
@@ -134,16 +133,11 @@ pub fn section_moment(cells: &[Cell]) -> Option<i128> {
 
 // ---- Partly filled, and the sum ----
 
-/// Section moment of a partly filled part: slope × BREADTH³/12, rounded up, at all depths.
-pub fn partly_filled_section_moment(breadth: i128) -> i128 {
-    rounded_up(SLOPE_25 * breadth * breadth * breadth, 12 * SLOPE_UNIT)
-}
-
 /// A part: section moment × LENGTH, rounded up to thousandths of m⁴. None if the void does not fit.
 fn part_moment(part: &Part) -> Option<i128> {
     let (section, length) = match part {
         Part::Section { length, cells } => (section_moment(cells)?, length),
-        Part::PartlyFilled { length, breadth, .. } => (partly_filled_section_moment(*breadth), length),
+        Part::PartlyFilled { length, breadth, void, grain } => (deck::section_moment(*breadth, *void, *grain), length),
     };
     Some(rounded_up(section * length, MM4_IN_THOUSANDTH))
 }
@@ -317,17 +311,18 @@ mod tests {
     }
 
     #[test]
-    fn partly_filled_12000() {
-        assert_eq!(partly_filled_section_moment(12_000), 67_148_640_000);
-        assert_eq!(partly_filled_section_moment(1), 1, "rounded up");
-    }
-
-    #[test]
     fn weight_moments_of_the_panel_run() {
         let first = Part::Section { length: 10_000, cells: vec![void(10_000, 500, 5_000)] };
         let second = Part::PartlyFilled { length: 10_000, breadth: 12_000, void: 3_000, grain: 6_000 };
         assert_eq!(weight_moment(&hold(Mode::Trimmed, 12_500, vec![first])), Some(118_548));
         assert_eq!(weight_moment(&hold(Mode::Partial, 12_500, vec![second])), Some(601_653));
+    }
+
+    #[test]
+    fn a_tween_deck_of_little_height() {
+        // 144,826,278,293 × 10,000 is 1,448,262.8 × 10⁹; 1,448,263 × 1.12 = 1,622,054.56; 1,622,055 × 0.8 is whole.
+        let part = Part::PartlyFilled { length: 10_000, breadth: 20_000, void: 1_500, grain: 1_500 };
+        assert_eq!(weight_moment(&hold(Mode::Partial, 12_500, vec![part])), Some(1_297_644));
     }
 
     #[test]

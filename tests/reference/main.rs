@@ -7,6 +7,7 @@
 
 mod arms;
 mod code;
+mod deck;
 mod grain;
 mod limits;
 mod line;

@@ -13,7 +13,7 @@ use Rattle.demands.proofs.Spaces.{spaces-are-free}
 use Rattle.demands.proofs.Demand2.{weight-is-total}
 use Rattle.demands.proofs.Demand3.{verdicts-hold}
 use Rattle.demands.proofs.Reached.{reached-are-within, ranges-are-within}
-use Rattle.demands.proofs.Runs.{first-run, second-run, show-run}
+use Rattle.demands.proofs.Runs.{first-run, second-run, deck-run, show-run}
 
 pub demands : Demands
 demands =
@@ -28,6 +28,7 @@ demands =
       clearStartsAnew = clear-starts-anew;
       firstRun = first-run;
       secondRun = second-run;
+      deckRun = deck-run;
       showsAForm = shows-a-form;
       showsTheForm = shows-the-form;
       shapesAreFourDeep = shapes-are-four-deep;

@@ -1,6 +1,6 @@
 -- The three demands (document 00), and show (document 02, P2), of the step of one line and of its repetition over any list of lines. Proved in
 -- proofs/Demands.antt. What each layer says by itself stands there: line_codes/specs/Codes.antt, limits/specs/Ranges.antt,
--- cells/specs/Figures.antt, grain/specs/Figures.antt, stability/specs/Demand.antt, reply/specs/Shown.antt, judging/specs/Codes.antt,
+-- cells/specs/Figures.antt, slack/specs/Exact.antt, grain/specs/Figures.antt, stability/specs/Demand.antt, reply/specs/Shown.antt, judging/specs/Codes.antt,
 -- operations/specs/Codes.antt, storing/specs/Stores.antt, spelling/specs/SoSpelled.antt, sending/specs/Laws.antt; the codes of a line in
 -- Codes.antt, show in Show.antt, the worked runs in Runs.antt.
 use mathlib.Core.Path.{_≡_}
@@ -37,7 +37,7 @@ use Rattle.sending.specs.Within.{Within}
 use Rattle.sending.specs.Laws.{RecordsCanBeSent}
 use Rattle.demands.specs.Codes.{request, Asks, ByOperation}
 use Rattle.demands.specs.Show.{ShowsAForm, ShowsTheForm, ShapesAreFourDeep}
-use Rattle.demands.specs.Runs.{FirstRun, SecondRun, ShowRun}
+use Rattle.demands.specs.Runs.{FirstRun, SecondRun, DeckRun, ShowRun}
 
 -- ---- Demand 1
 
@@ -174,6 +174,7 @@ pub record Demands : Type 0 where
   pub clearStartsAnew : ClearStartsAnew
   pub firstRun : FirstRun
   pub secondRun : SecondRun
+  pub deckRun : DeckRun
   pub showsAForm : ShowsAForm
   pub showsTheForm : ShowsTheForm
   pub shapesAreFourDeep : ShapesAreFourDeep

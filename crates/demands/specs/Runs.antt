@@ -1,11 +1,11 @@
 -- Worked runs of a panel newly started, as computed claims about the definitions. The first is document 01's. The figures of the
 -- second are chosen so that a slip in any rule of depths, shifted voids, weights, arms or verdict changes a reply, and so that two fields
--- read in each other's place do (but VOID and GRAIN, which no figure takes, and EDGE under `old`): unlike columns with D between them;
+-- read in each other's place do (but VOID and GRAIN, which give every figure alike, and EDGE under `old`): unlike columns with D between them;
 -- EDGE below 1,200 under `new`; an `old` ship with D 940, where the heeling arm at 1,200 is W itself, so that DIFF shows W to the unit;
 -- wings, hatches and void cells; a wing whose depth lies between two tenths and its area between two whole mm², 946.12 and 6,983,902.2;
 -- one whose two terms have hundredths, 447.34 + 189.75, so that each rounded by itself gives another tenth; one at the least depth; an
 -- excess that moves past a cell with room, a void that does not fit; FLOOD inside a step; each of 40 to 43 once, and a DIFF below zero
--- beyond UPPER with 00. The third is of show lines.
+-- beyond UPPER with 00. The third is of partly filled parts of each shape, the fourth of show lines.
 use mathlib.Core.Path.{_≡_}
 use mathlib.Core.List.{List, [], _∷_, map}
 use Prim.Native.String.{String}
@@ -112,6 +112,42 @@ SecondRun =
     ∷ "(verdict 00 1998560 1232283 1477 1278696842)\n"
     ∷ "(answer 00)\n"
     ∷ "(verdict 00 1998560 1349085 1477 1447262434)\n"
+    ∷ [])
+
+-- partly filled parts, one of each shape, so that the third figure is −208 − W: the line of 25 degrees uncut; the void as a triangle; the
+-- grain as a triangle; from deck to floor
+abbrev pub decks : List String
+decks =
+    "(ship old 1 4000)"
+    ∷ "(column 100 50000 (0 0 0 0 0 0 0 0 0 0))"
+    ∷ "(column 2000 50000 (0 0 0 0 0 0 0 0 0 0))"
+    ∷ "(load 940 1 0)"
+    ∷ "(hold 1 partial 12500 (part 10000 12000 3000 6000))"
+    ∷ "(judge)"
+    ∷ "(hold 1 partial 12500 (part 10000 12000 600 6000))"
+    ∷ "(judge)"
+    ∷ "(hold 1 partial 12500 (part 10000 20000 9000 500))"
+    ∷ "(judge)"
+    ∷ "(hold 1 partial 12500 (part 10000 20000 1500 1500))"
+    ∷ "(judge)"
+    ∷ []
+
+abbrev pub DeckRun : Type 0
+DeckRun =
+    replies 96 decks
+    ≡ map bytes
+    ("(answer 00)\n"
+    ∷ "(answer 00)\n"
+    ∷ "(answer 00)\n"
+    ∷ "(answer 00)\n"
+    ∷ "(answer 00)\n"
+    ∷ "(verdict 41 49999000 -601861 4000 0)\n"
+    ∷ "(answer 00)\n"
+    ∷ "(verdict 41 49999000 -267783 4000 0)\n"
+    ∷ "(answer 00)\n"
+    ∷ "(verdict 41 49999000 -700612 4000 0)\n"
+    ∷ "(answer 00)\n"
+    ∷ "(verdict 41 49999000 -1297852 4000 0)\n"
     ∷ [])
 
 -- show: each form that it takes, and what it does not take; five deep behind `show` alone, numbers as they are written, nothing stored

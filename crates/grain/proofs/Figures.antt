@@ -18,10 +18,12 @@ use Rattle.record.specs.declared.Part.{Part}
 use Rattle.record.specs.declared.Hold.{Hold}
 use Rattle.record.specs.Filler.{noPart}
 use Rattle.record.specs.Held.{cellWidth, cellLip, cellsOf, partsOf}
-use Rattle.limits.specs.Limits.{partLimits, holdLimits}
+use Rattle.limits.specs.Limits.{slackLimits, partLimits, holdLimits}
+use Rattle.limits.proofs.Ranges.{slack-range}
+use Rattle.slack.specs.Exact.{DeckMoment}
+use Rattle.slack.proofs.Rows.{moments-near}
 use Rattle.cells.specs.Depth.{cellArea}
 use Rattle.cells.specs.Sizes.{cellMost}
-use Rattle.cells.specs.Figures.{RoundedUp}
 use Rattle.cells.proofs.Figures.{rounded-up, area-is, most-is, area-only, most-only}
 use Rattle.grain.specs.Section.{Kept, kept, keptOf, base, firstMoment, oldTwice, fits, fitsFrom, sectionMoment}
 use Rattle.grain.specs.Slack.{slackMoment}
@@ -181,14 +183,14 @@ section-moment (c ∷ cs) w =
     }
 
 -- ---- the sum
-slack : (p : Part) → RoundedUp (46631 * (p .breadth * p .breadth * p .breadth)) 1200000 (slackMoment p)
+slack : (p : Part) → slackLimits p ≡ true → DeckMoment (p .breadth) (p .void) (p .grain) (slackMoment p)
 unfolding slackMoment
-slack p = (omega arith, omega arith)
+slack p e = moments-near (p .breadth) (p .void) (p .grain) (omega (arith, slack-range p .0 e .3))
 
 section-of : (mode : Mode) (p : Part) → partLimits mode p ≡ true → length (p .cells) ≡ 8 → PartSection mode p (partSection mode p)
 section-of Trimmed p e l = section-moment (cellsOf p) (cells-section p (part-within p e) l)
 section-of Voided p e l = section-moment (cellsOf p) (cells-section p (part-within p e) l)
-section-of Partial p e l = slack p
+section-of Partial p e l = slack p e
 
 percent-is : (mode : Mode) → percentage mode ≡ percent mode
 percent-is Trimmed = refl

@@ -1,6 +1,6 @@
 -- Laws of parts, holds and weight moments: how large they are.
 use mathlib.Core.Path.{_≡_, refl, ap}
-use mathlib.Core.Bool.{Bool, true, false, cond, _&&_}
+use mathlib.Core.Bool.{Bool, true, false, cond}
 use mathlib.Core.List.{List, [], _∷_}
 use Prim.Native.Nat.{ℕ, _+_, _*_, _^_, _≤_}
 use native.Mathlib.Omega.{arith}
@@ -16,6 +16,8 @@ use Rattle.record.specs.declared.Part.{Part}
 use Rattle.record.specs.declared.Hold.{Hold}
 use Rattle.record.specs.Held.{cellWidth, cellsOf, partsOf}
 use Rattle.limits.specs.Limits.{cellLimits, sectionLimits, slackLimits, partLimits, holdLimits}
+use Rattle.limits.proofs.Ranges.{slack-range}
+use Rattle.slack.proofs.Rows.{deck-le}
 use Rattle.grain.specs.declared.Shifted.the-variants.{Moment, NoFit}
 use Rattle.grain.specs.Section.{Kept, keptFrom, keptOf, highMoment, sectionMoment}
 use Rattle.grain.specs.Slack.{slackMoment}
@@ -49,14 +51,10 @@ section-le (c ∷ cs) e w =
 
 -- ---- a part: within 2 to the 44th mm³, and 2 to the 30th thousandths of m⁴
 slack-le : (p : Part) → slackLimits p ≡ true → (p .length ≤ 60000) × (slackMoment p ≤ 2 ^ 44)
-unfolding slackLimits slackMoment
+unfolding slackMoment
 slack-le p e =
-    let t = and-true (within 1 60000 (p .length) && within 1 40000 (p .breadth) && within 1 30000 (p .void)) (within 1 30000 (p .grain)) e .0 in
-    let u = and-true (within 1 60000 (p .length) && within 1 40000 (p .breadth)) (within 1 30000 (p .void)) t .0 in
-    let v = and-true (within 1 60000 (p .length)) (within 1 40000 (p .breadth)) u in
-    let b = within-true 1 40000 (p .breadth) (v .1) .high in
-    let bb = mul-le-mul b b in
-    (within-true 1 60000 (p .length) (v .0) .high, omega (arith, mul-le-mul b bb))
+    let r = slack-range p .0 e in
+    (r .1, deck-le (p .breadth) (p .void) (p .grain) (r .3))
 
 trimmed-le : (p : Part) → sectionLimits p ≡ true → (p .length ≤ 60000) × (sectionMoment (cellsOf p) ≤ 2 ^ 44)
 trimmed-le p e =

@@ -16,6 +16,7 @@ use Rattle.record.specs.declared.Hold.{Hold}
 use Rattle.record.specs.Filler.{noPart}
 use Rattle.record.specs.Held.{cellWidth, cellLip, cellsOf, partsOf}
 use Rattle.cells.specs.Figures.{RoundedUp, RoundedDown, CellArea, MostHeld}
+use Rattle.slack.specs.Exact.{DeckMoment}
 
 -- f 0 + f 1 + .. + f (n − 1)
 unfoldable pub total : ℕ → (ℕ → ℕ) → ℕ
@@ -101,11 +102,12 @@ pub record SectionMoment (cs : List Cell) (m : ℕ) : Type 0 where
 
 -- ---- Partly filled, and the sum
 
--- the section moment m of a part: of cells as above; of `partial` slope × BREADTH³/12, rounded up, with the slope 46,631/100,000
+-- the section moment m of a part: of cells as above; of `partial` by the shape in which void and grain lie under the deck (document 02,
+-- P3; slack/specs/Exact.antt)
 abbrev pub PartSection : Mode → Part → ℕ → Type 0
 PartSection Trimmed p m = SectionMoment (cellsOf p) m
 PartSection Voided p m = SectionMoment (cellsOf p) m
-PartSection Partial p m = RoundedUp (46631 * (p .breadth * p .breadth * p .breadth)) 1200000 m
+PartSection Partial p m = DeckMoment (p .breadth) (p .void) (p .grain) m
 
 -- the i-th part of a hold
 abbrev pub part : Hold → ℕ → Part

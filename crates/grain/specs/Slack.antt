@@ -1,12 +1,8 @@
--- Document 01, Partly filled.
-use Prim.Native.Nat.{ℕ, _*_}
-use Rattle.whole.specs.Divide.{ceilDiv}
+-- Document 01, Partly filled, with the deck of document 02, P3.
+use Prim.Native.Nat.{ℕ}
 use Rattle.record.specs.declared.Part.{Part}
+use Rattle.slack.specs.Deck.{deckMoment}
 
--- the slope of 25 degrees, in hundred-thousandths
-abbrev pub slope25 : ℕ
-slope25 = 46631
-
--- the section moment slope × BREADTH³/12, rounded up, at all depths
+-- the section moment of a part, the line of 25 degrees stopped at deck and floor
 unfoldable pub slackMoment : Part → ℕ
-slackMoment p = ceilDiv (slope25 * (p .breadth * (p .breadth * p .breadth))) 1200000
+slackMoment p = deckMoment (p .breadth) (p .void) (p .grain)

@@ -37,9 +37,6 @@ pub enum Shifted {
     NoFit,
 }
 
-// The slope of 25 degrees, in hundred-thousandths.
-const SLOPE_25: u64 = 46631;
-
 // The base of a kept area that lies as a triangle, rounded down.
 fn base_of(area: u64) -> u64
     requires { ⌜ area ≤ 200000000 ⌝ }
@@ -138,8 +135,7 @@ fn section(p: Part) -> Shifted
 fn slack_moment(p: Part) -> u64
     ensures { λ r. ⌜ r ≡ slackMoment p ⌝ }
 {
-    let breadth = p.breadth as u64;
-    whole::divide_up(SLOPE_25 * (breadth * (breadth * breadth)), 1200000)
+    slack::section_moment(p.breadth, p.void, p.grain)
 }
 
 // The section moment of a part, by the hold's mode.

@@ -113,7 +113,7 @@ section-range p = (
       ),
 )
 
-slack-range : (p : Part) → (slackLimits p ≡ true) ↔ SlackRange p
+pub slack-range : (p : Part) → (slackLimits p ≡ true) ↔ SlackRange p
 unfolding slackLimits
 slack-range p = (
   λ e. let t = and-true (within 1 60000 (p .length) && within 1 40000 (p .breadth) && within 1 30000 (p .void)) (within 1 30000 (p .grain)) e in

@@ -1,5 +1,6 @@
 -- Document 01, Readings to check by, with the depths in tenths of a mm as document 02, P1 has them: the proved set, as one table of what the
--- definitions give and what the papers print.
+-- definitions give and what the papers print. Behind them partly filled sections under the deck (P3), one of each shape worked by hand
+-- (docs/COMMISSIONING.md), and one whose exact base is 1,000 mm.
 use mathlib.Core.Bool.{Bool}
 use mathlib.Core.List.{List, [], _∷_}
 use Prim.Native.Nat.{ℕ}
@@ -10,6 +11,8 @@ use Rattle.record.specs.declared.Cell.the-variants.{Void}
 use Rattle.record.specs.declared.Part.{Part}
 use Rattle.cells.specs.Depth.{standardDepth, wingDepth, cellDepth, cellArea}
 use Rattle.cells.specs.Sizes.{mostHeld}
+use Rattle.slack.specs.Deck.{deckMoment}
+use Rattle.slack.specs.Deck as Deck
 use Rattle.grain.specs.Section.{keptFrom, base, firstMoment, highMoment, oldTwice, sectionMoment}
 use Rattle.grain.specs.Slack.{slackMoment}
 
@@ -39,6 +42,11 @@ readings =
     ∷ (base (cellArea (Void 10000 500 5000)) reads 6109)
     ∷ (sectionMoment (Void 10000 500 5000 ∷ []) reads 14818333334)
     ∷ (slackMoment slackPart reads 67148640000)
+    ∷ (deckMoment 12000 600 6000 reads 29863200000)
+    ∷ (deckMoment 20000 9000 500 reads 78170000000)
+    ∷ (deckMoment 20000 1500 1500 reads 144826278293)
+    ∷ (Deck.base 233155 reads 1000)
+    ∷ (deckMoment 1055 221 6000 reads 45270930)
     ∷ []
 
 -- each figure is the printed one
@@ -46,5 +54,5 @@ abbrev pub right : Reading → Bool
 right r = eqb (r .given) (r .printed)
 
 pub readings-hold : T (all right readings)
-unfolding all standardDepth wingDepth cellDepth cellArea mostHeld rootDigits keptFrom firstMoment sumOf highMoment oldTwice sectionMoment slackMoment
+unfolding all standardDepth wingDepth cellDepth cellArea mostHeld rootDigits keptFrom firstMoment sumOf highMoment oldTwice sectionMoment slackMoment deckMoment
 readings-hold = tt
