@@ -1,8 +1,8 @@
 -- The three demands (document 00), and show (document 02, P2), of the step of one line and of its repetition over any list of lines. Proved in
 -- proofs/Demands.antt. What each layer says by itself stands there: line_codes/specs/Codes.antt, limits/specs/Ranges.antt,
--- cells/specs/Figures.antt, slack/specs/Exact.antt, grain/specs/Figures.antt, stability/specs/Demand.antt, reply/specs/Shown.antt, judging/specs/Codes.antt,
--- operations/specs/Codes.antt, storing/specs/Stores.antt, spelling/specs/SoSpelled.antt, sending/specs/Laws.antt; the codes of a line in
--- Codes.antt, show in Show.antt, the worked runs in Runs.antt.
+-- cells/specs/Figures.antt, slack/specs/Exact.antt, grain/specs/Figures.antt, stability/specs/Demand.antt, reply/specs/Shown.antt,
+-- judging/specs/Codes.antt, operations/specs/Codes.antt, storing/specs/Stores.antt, spelling/specs/SoSpelled.antt, sending/specs/Laws.antt;
+-- the codes of a line in Codes.antt, show in Show.antt, the worked runs in Runs.antt.
 use mathlib.Core.Path.{_≡_}
 use mathlib.Core.Bool.{true}
 use mathlib.Core.List.{List, [], _∷_, _++_}

@@ -1,6 +1,6 @@
 -- Worked runs of a panel newly started, as computed claims about the definitions. The first is document 01's. The figures of the
 -- second are chosen so that a slip in any rule of depths, shifted voids, weights, arms or verdict changes a reply, and so that two fields
--- read in each other's place do (but VOID and GRAIN, which give every figure alike, and EDGE under `old`): unlike columns with D between them;
+-- read in each other's place do (but VOID and GRAIN, whose exchange leaves every figure as it is, and EDGE under `old`): unlike columns with D between them;
 -- EDGE below 1,200 under `new`; an `old` ship with D 940, where the heeling arm at 1,200 is W itself, so that DIFF shows W to the unit;
 -- wings, hatches and void cells; a wing whose depth lies between two tenths and its area between two whole mm², 946.12 and 6,983,902.2;
 -- one whose two terms have hundredths, 447.34 + 189.75, so that each rounded by itself gives another tenth; one at the least depth; an
@@ -114,7 +114,7 @@ SecondRun =
     ∷ "(verdict 00 1998560 1349085 1477 1447262434)\n"
     ∷ [])
 
--- partly filled parts, one of each shape, so that the third figure is −208 − W: the line of 25 degrees uncut; the void as a triangle; the
+-- partly filled parts, one of each shape, so that DIFF is −208 − W: the line of 25 degrees uncut; the void as a triangle; the
 -- grain as a triangle; from deck to floor
 abbrev pub decks : List String
 decks =

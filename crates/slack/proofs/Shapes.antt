@@ -7,7 +7,7 @@ use native.Mathlib.Nat.{mul-le-mul-left, mul-lt-mul-of-pos-left, le-of-mul-le-mu
 use Rattle.whole.specs.Divide.{ceilDiv}
 use Rattle.whole.proofs.Dividing.{ceil-low, ceil-high}
 use Rattle.slack.specs.Deck.{uncutMoment, neitherMoment}
-use Rattle.slack.specs.Exact.{Piece, areas, toMoment, fromMoment, VoidMoment, Uncut, lowSide, uncutPieces, LiesAsTriangle, Crosses, parts, lineWidth, lineStart, piecesAt, neitherPieces}
+use Rattle.slack.specs.Exact.{Piece, areas, toMoment, fromMoment, VoidMoment, Uncut, lowSide, uncutPieces, LiesAsTriangle, Crosses, parts, lineWidth, lineEnd, piecesAt, neitherPieces}
 use Rattle.slack.specs.Laws.{ShapesAreApart, LineFits, UncutUnrounded, NeitherUnrounded, VoidAroundGrain}
 use Rattle.slack.specs.Walk.{K, firstTerm, secondTerm}
 use Rattle.slack.proofs.Neither.{some-height, ordered, reduced}
@@ -75,21 +75,21 @@ module _ (b v g : ℕ) (crosses : Crosses b v g) where
   whole-start : (h a : ℕ) → a + 100000 * (h * h) ≡ 93262 * (b * v) → 2 * (a * h) + lineWidth h * h ≡ 2 * (b * v * parts h)
   whole-start h a e = omega (arith, ap (λ x. x * h) e)
 
-  starts : (h : ℕ) → v + g ≡ h → 2 * (lineStart b v h * h) + lineWidth h * h ≡ 2 * (b * v * parts h)
-  starts h e = whole-start h (lineStart b v h) (omega (arith, rw e at (crosses .void)))
+  starts : (h : ℕ) → v + g ≡ h → 2 * (lineEnd b v h * h) + lineWidth h * h ≡ 2 * (b * v * parts h)
+  starts h e = whole-start h (lineEnd b v h) (omega (arith, rw e at (crosses .void)))
 
   crosses-moment :
       (h : ℕ) → v + g ≡ h
       → 2 * h * K * toMoment (neitherPieces b v h) + 2 * parts h * (6 * parts h) * (2 * h * secondTerm h)
       ≡ 2 * h * K * fromMoment (neitherPieces b v h) + 2 * parts h * (6 * parts h) * (K * firstTerm b v g)
-  crosses-moment h e = pieces-moment b v g h (parts h) (lineStart b v h) (lineWidth h) e (omega arith) (starts h e)
+  crosses-moment h e = pieces-moment b v g h (parts h) (lineEnd b v h) (lineWidth h) e (omega arith) (starts h e)
 
   neither-made :
       Made b v (K * firstTerm b v g - 2 * (v + g) * secondTerm (v + g)) (2 * (v + g) * K) (2 * parts (v + g)) (6 * parts (v + g))
       (neitherPieces b v (v + g))
   neither-made =
       record {
-        keeps = pieces-keep b v g (v + g) (parts (v + g)) (lineStart b v (v + g)) (lineWidth (v + g)) refl (omega arith) (starts (v + g) refl);
+        keeps = pieces-keep b v g (v + g) (parts (v + g)) (lineEnd b v (v + g)) (lineWidth (v + g)) refl (omega arith) (starts (v + g) refl);
         moment =
             terms _ _ (2 * parts (v + g) * (6 * parts (v + g))) (K * firstTerm b v g) (2 * (v + g) * secondTerm (v + g)) (ordered b v g crosses)
             (crosses-moment (v + g) refl);
@@ -115,7 +115,7 @@ neither-unrounded b v g h e crosses =
         → d′ * t + u * y′ ≡ d′ * f + u * x′
     eight d x y u t f d′ x′ y′ ed ex ey i = rw (ed, ex, ey) (omega arith)
 
--- the line ends within the breadth
+-- the line meets the deck within the breadth
 pub line-fits : LineFits
 line-fits b v g crosses = within (v + g) refl (crosses .void) (crosses .grain)
   where
@@ -124,7 +124,7 @@ line-fits b v g crosses = within (v + g) refl (crosses .void) (crosses .grain)
         → v + g ≡ h
         → 100000 * (h * h) < 93262 * (b * v)
         → 100000 * (h * h) < 93262 * (b * g)
-        → lineStart b v h + lineWidth h ≤ parts h * b
+        → lineEnd b v h + lineWidth h ≤ parts h * b
     within h e m l = omega (arith, ap (λ x. b * x) e)
 
 -- ---- the void around a grain triangle

@@ -72,8 +72,8 @@ pub record LiesAsTriangle (b d h : ℕ) : Type 0 where
 abbrev pub triangle : (b area base : ℕ) → Piece
 triangle b area base = record { area = area; toward = 3 * b; away = 2 * base }
 
--- The moment M made with a triangle of area A: its base rounded down to whole mm, and the moment made with it rounded up once. 6 times
--- the exact value is 3 A b − 2 A base, and (2 A base)² = 800000 A³/46631. (Where it is the grain, the void's moment is the same:
+-- The moment M made with a triangle of area A: its base rounded down to whole mm (`RootAt`: the whole part of the root of
+-- 200000 A/46631), and the moment made with it rounded up once. 6 times the exact value is 3 A b − 2 A base, and (2 A base)² = 800000 A³/46631. (Where it is the grain, the void's moment is the same:
 -- `VoidAroundGrain`, Laws.antt.)
 pub record TriangleMoment (b A M : ℕ) : Type 0 where
   pub base : ℕ
@@ -90,8 +90,8 @@ pub record TriangleMoment (b A M : ℕ) : Type 0 where
       < 46631 * ((3 * (A * b) + 6 + 2 * A - 6 * M) * (3 * (A * b) + 6 + 2 * A - 6 * M))
 
 -- ---- neither: the line goes from deck to floor
--- The line is p = h/s wide and starts a = b v/h − p/2 from the high side. It starts and ends within the breadth where void and grain
--- each have more area than the greatest triangle, h²/(2 s).
+-- The line is p = h/s wide. It meets the floor a = b v/h − p/2 from the high side, and the deck a + p from there; both lie within the
+-- breadth where void and grain each have more area than the greatest triangle, h²/(2 s).
 pub record Crosses (b v g : ℕ) : Type 0 where
   pub void : 100000 * ((v + g) * (v + g)) < 93262 * (b * v)
   pub grain : 100000 * ((v + g) * (v + g)) < 93262 * (b * g)
@@ -105,8 +105,8 @@ abbrev pub lineWidth : (h : ℕ) → ℕ
 lineWidth h = 200000 * (h * h)
 
 -- k a = 2 × 46631 b v − k p/2
-abbrev pub lineStart : (b v h : ℕ) → ℕ
-lineStart b v h = 93262 * (b * v) - 100000 * (h * h)
+abbrev pub lineEnd : (b v h : ℕ) → ℕ
+lineEnd b v h = 93262 * (b * v) - 100000 * (h * h)
 
 -- The void is a rectangle a h at b/2 − a/2 and a triangle p h/2 at b/2 − a − p/3. Areas in 2 k-ths of a mm², levers in 6 k-ths of a mm.
 abbrev pub piecesAt : (b h k a p : ℕ) → List Piece
@@ -116,7 +116,7 @@ piecesAt b h k a p =
     ∷ []
 
 abbrev pub neitherPieces : (b v h : ℕ) → List Piece
-neitherPieces b v h = piecesAt b h (parts h) (lineStart b v h) (lineWidth h)
+neitherPieces b v h = piecesAt b h (parts h) (lineEnd b v h) (lineWidth h)
 
 -- ---- M is the section moment: some shape fits, and M is its moment
 pub record DeckMoment (b v g M : ℕ) : Type 0 where

@@ -4,12 +4,19 @@ use mathlib.Core.List.{List, [], _∷_}
 use Prim.Native.Nat.{ℕ, _+_, _*_, _-_, _≤_, _<_}
 use Rattle.whole.specs.Root.{RootAt}
 use Rattle.slack.specs.Deck.{deckMoment}
-use Rattle.slack.specs.Exact.{Piece, areas, toMoment, fromMoment, Uncut, uncutPieces, LiesAsTriangle, triangle, Crosses, parts, lineWidth, lineStart, neitherPieces, DeckMoment}
+use Rattle.slack.specs.Exact.{Piece, areas, toMoment, fromMoment, Uncut, uncutPieces, LiesAsTriangle, triangle, Crosses, parts, lineWidth, lineEnd, neitherPieces, DeckMoment}
 
 -- P3's accuracy, of every section up to 65,535 broad, whatever its depths: some shape fits, and the moment is as near to it as the request
 -- asks
 abbrev pub MomentsAreNear : Type 0
 MomentsAreNear = (b v g : ℕ) → b ≤ 65535 → DeckMoment b v g (deckMoment b v g)
+
+-- A quarter of a triangle's area in place of a third would be too little: 40,000 broad, with a void of 9,322 above 30,000 of grain,
+-- 6 A b + 12 + 3 A − 12 M is at most 4 A base
+abbrev pub QuarterIsTooLittle : Type 0
+QuarterIsTooLittle =
+    (A M : ℕ) → A ≡ 40000 * 9322 → M ≡ deckMoment 40000 9322 30000 →
+    46631 * ((6 * (A * 40000) + 12 + 3 * A - 12 * M) * (6 * (A * 40000) + 12 + 3 * A - 12 * M)) ≤ 3200000 * (A * A * A)
 
 -- no two shapes fit one section
 pub record Apart (b v g : ℕ) : Type 0 where
@@ -38,9 +45,9 @@ BaseFits =
     (b d h base : ℕ) → LiesAsTriangle b d h → RootAt (200000 * (b * d)) 46631 1 base →
     (base < b) × (46631 * base ≤ 100000 * h)
 
--- the line from deck to floor ends within the breadth
+-- the line from deck to floor meets the deck within the breadth
 abbrev pub LineFits : Type 0
-LineFits = (b v g : ℕ) → Crosses b v g → lineStart b v (v + g) + lineWidth (v + g) ≤ parts (v + g) * b
+LineFits = (b v g : ℕ) → Crosses b v g → lineEnd b v (v + g) + lineWidth (v + g) ≤ parts (v + g) * b
 
 -- uncut, the pieces' moment is s b³/12, the old figure without its rounding: 1,200,000 times both
 abbrev pub UncutUnrounded : Type 0
@@ -82,6 +89,7 @@ ExchangedAlike = (b v g : ℕ) → deckMoment b v g ≡ deckMoment b g v
 -- all of them
 pub record Laws : Type 0 where
   pub momentsAreNear : MomentsAreNear
+  pub quarterIsTooLittle : QuarterIsTooLittle
   pub shapesAreApart : ShapesAreApart
   pub noDepthMet : NoDepthMet
   pub noHeightMet : NoHeightMet

@@ -2,7 +2,7 @@
 -- proofs/Neither.antt lead from these figures to it.)
 use Prim.Native.Nat.{ℕ, _+_, _*_, _/_, _%_, _^_, _≤_, _<_}
 
--- an eighth of 24 slopeSquare, and of unitSquare
+-- an eighth of 24 slopeSquare, and of unitSquare: K and e below
 abbrev pub K : ℕ
 K = 3 * (46631 * 46631)
 

@@ -56,11 +56,11 @@ fn neither_moment(b: u64, v: u64, g: u64) -> u64
     let cube = h * h * h;
     let carried = UNIT_EIGHTH * (cube % THRICE_SQUARE);
     let second = UNIT_EIGHTH * (cube / THRICE_SQUARE) + carried / THRICE_SQUARE;
-    let more = first / (2 * h) - second;
+    let wholes = first / (2 * h) - second;
     if 2 * h * (carried % THRICE_SQUARE) < THRICE_SQUARE * (first % (2 * h)) {
-        more + 1
+        wholes + 1
     } else {
-        more
+        wholes
     }
 }
 
