@@ -119,7 +119,9 @@ SpacesAreFree =
     (c : Condition) (a b : List ℕ) (lent : ℕ) → length (a ++ b) < 2000 → NotInside a b →
     stepOf c (a ++ 32 ∷ b) lent ≡ stepOf c (a ++ b) lent
 
--- W is the weight moments of the holds held, added up: hold n stands at the place n − 1
+-- W is the weight moments of the holds held, added up: hold n stands at the place n − 1. What each is made from, grain/specs/Figures.antt says:
+-- of a trimmed or voided hold each part by `SectionMoment`, of a partial one each part by `DeckMoment` (slack/specs/Exact.antt), with the
+-- accuracy of each
 pub record TotalWeight (c : Condition) (w : ℕ) : Type 0 where
   pub weights : ℕ → ℕ
   pub held : (i : ℕ) → i < 16 → 0 < getD (c .holds) i noHold .head .count → WeightMoment (getD (c .holds) i noHold) (weights i)

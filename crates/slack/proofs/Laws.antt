@@ -4,7 +4,7 @@ use borrow.Author.Tests.{leb-true}
 use Rattle.whole.specs.Root.{rootDigits}
 use Rattle.slack.specs.Deck.{deckMoment}
 use Rattle.slack.specs.Laws.{QuarterIsTooLittle, Laws}
-use Rattle.slack.proofs.Triangles.{base-fits}
+use Rattle.slack.proofs.Triangles.{by-squares, base-fits}
 use Rattle.slack.proofs.Shapes.{shapes-apart, line-fits, uncut-unrounded, neither-unrounded, void-around-grain}
 use Rattle.slack.proofs.Rows.{moments-near, exchanged-alike}
 use Rattle.slack.proofs.Edges.{no-depth-met, no-height-met}
@@ -17,6 +17,7 @@ pub laws : Laws
 laws =
     record {
       momentsAreNear = moments-near;
+      bySquares = by-squares;
       quarterIsTooLittle = quarter-too-little;
       shapesAreApart = shapes-apart;
       noDepthMet = no-depth-met;

@@ -4,14 +4,14 @@ use mathlib.Core.List.{[], _∷_}
 use mathlib.Core.Logic.{_⊎_, inl, inr}
 use Prim.Native.Nat.{ℕ, _+_, _*_, _-_, _/_, _^_, _≤_, _<_}
 use native.Mathlib.Omega.{arith}
-use native.Mathlib.Nat.{mul-le-mul, mul-le-mul-left, mul-lt-mul-of-pos-left}
+use native.Mathlib.Nat.{mul-le-mul, mul-le-mul-left, mul-lt-mul-of-pos-left, le-of-mul-le-mul-left, mul-pos}
 use native.Mathlib.Decide.{decLe}
 use Rattle.whole.specs.Root.{RootAt}
 use Rattle.whole.proofs.Dividing.{ceil-low, ceil-high}
 use Rattle.whole.proofs.Roots.{root-is, root-less, root-least}
 use Rattle.slack.specs.Deck.{base, triangleMoment}
 use Rattle.slack.specs.Exact.{RoundedOnce, triangle, TriangleMoment}
-use Rattle.slack.specs.Laws.{BaseFits}
+use Rattle.slack.specs.Laws.{BySquares, BaseFits}
 
 -- c is the whole part of the base of a triangle of area A
 abbrev Base : (A c : ℕ) → Type 0
@@ -21,6 +21,14 @@ base-is : (A : ℕ) → A ≤ 2 ^ 40 → Base A (base A)
 base-is A small =
     let r = root-is (200000 * A / 46631) (omega arith) in
     record { low = omega (arith, r .low); high = omega (arith, r .high) }
+
+-- ---- 46631 (x d)² against 46631 (2 A n)² = 800000 A³ d²
+pub by-squares : BySquares
+by-squares A n d x pd e =
+    let cube : 46631 * (A * A * (n * n)) ≡ 200000 * (A * A * A * (d * d)) = omega (arith, ap (λ z. A * A * z) e) in (
+      λ h. root-least (x * d) (2 * (A * n)) (omega (arith, mul-le-mul-left (d * d) h)),
+      λ h. le-of-mul-le-mul-left {k = d * d} (omega (arith, mul-le-mul h h)) (mul-pos pd pd),
+    )
 
 -- ---- the triangle fits the rectangle
 -- where half the breadth times the slope passes the depth, the base is less than the breadth

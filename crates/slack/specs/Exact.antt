@@ -73,8 +73,9 @@ abbrev pub triangle : (b area base : ℕ) → Piece
 triangle b area base = record { area = area; toward = 3 * b; away = 2 * base }
 
 -- The moment M made with a triangle of area A: its base rounded down to whole mm (`RootAt`: the whole part of the root of
--- 200000 A/46631), and the moment made with it rounded up once. 6 times the exact value is 3 A b − 2 A base, and (2 A base)² = 800000 A³/46631. (Where it is the grain, the void's moment is the same:
--- `VoidAroundGrain`, Laws.antt.)
+-- 200000 A/46631), and the moment made with it rounded up once. Where the triangle is the grain, the void's moment is the same
+-- (`VoidAroundGrain`, Laws.antt). 6 times the exact value is 3 A b − 2 A base with the exact base, a root; so what is at most 2 A base is
+-- said by squares: (2 A base)² = 800000 A³/46631 (`BySquares`, Laws.antt).
 pub record TriangleMoment (b A M : ℕ) : Type 0 where
   pub base : ℕ
   pub whole : RootAt (200000 * A) 46631 1 base

@@ -1,6 +1,7 @@
 -- Laws of the shapes of Exact.antt, and of the moment.
 use mathlib.Core.Path.{_≡_}
 use mathlib.Core.List.{List, [], _∷_}
+use mathlib.Core.Logic.{_↔_}
 use Prim.Native.Nat.{ℕ, _+_, _*_, _-_, _≤_, _<_}
 use Rattle.whole.specs.Root.{RootAt}
 use Rattle.slack.specs.Deck.{deckMoment}
@@ -10,6 +11,12 @@ use Rattle.slack.specs.Exact.{Piece, areas, toMoment, fromMoment, Uncut,
 -- asks
 abbrev pub MomentsAreNear : Type 0
 MomentsAreNear = (b v g : ℕ) → b ≤ 65535 → DeckMoment b v g (deckMoment b v g)
+
+-- What the squares say, wherever the exact base of a triangle of area A is a fraction n/d: x is at most 2 A base
+abbrev pub BySquares : Type 0
+BySquares =
+    (A n d x : ℕ) → 0 < d → 46631 * (n * n) ≡ 200000 * A * (d * d) →
+    (46631 * (x * x) ≤ 800000 * (A * A * A)) ↔ (x * d ≤ 2 * (A * n))
 
 -- A quarter of a triangle's area in place of a third would be too little: 40,000 broad, with a void of 9,322 above 30,000 of grain,
 -- 6 A b + 12 + 3 A − 12 M is at most 4 A base
@@ -89,6 +96,7 @@ ExchangedAlike = (b v g : ℕ) → deckMoment b v g ≡ deckMoment b g v
 -- all of them
 pub record Laws : Type 0 where
   pub momentsAreNear : MomentsAreNear
+  pub bySquares : BySquares
   pub quarterIsTooLittle : QuarterIsTooLittle
   pub shapesAreApart : ShapesAreApart
   pub noDepthMet : NoDepthMet
