@@ -1,9 +1,11 @@
 """A program of the panel as a process: how input comes in, how replies go out, how it ends."""
 
 import os
+import re
 import socket
 import subprocess
 import threading
+from pathlib import Path
 
 from support import REPOSITORY, Outcome, escaped, run_program
 
@@ -21,7 +23,7 @@ WORKED_REPLIES = b"(answer 00)\n" * 6 + b"(verdict 00 900000 368832 3500 2012606
 PATIENCE = 20
 # Bytes of the longest line sent, and kilobytes of memory that a program may use for it: far less than the line.
 LONG_LINE = 100_000_000
-MOST_MEMORY = 50_000
+MOST_MEMORY = 10_000
 
 
 def check_process(results, name, program):
@@ -176,15 +178,20 @@ class Talk:
         """Waits, with the input still open, until the program has ended or time is up."""
         self.reader.join()
 
+    def memory(self):
+        """The most memory that the program has had so far, in kilobytes; 0 if it has ended. (What the system tells behind
+        its end counts this process's own memory too, from before the program was started in its place.)"""
+        status = Path(f"/proc/{self.process.pid}/status")
+        told = re.search(r"^VmHWM:\s+(\d+) kB$", status.read_text(), re.MULTILINE) if status.exists() else None
+        return int(told[1]) if told else 0
+
     def finish(self):
-        """Closes the input and waits for the end; answers the process's use of memory in kilobytes."""
+        """Closes the input and waits for the end."""
         self.input.close()
         self.reader.join()
         self.process.stdout.close()
-        _, status, usage = os.wait4(self.process.pid, 0)
-        self.process.returncode = os.waitstatus_to_exitcode(status)
+        self.process.wait()
         self.watch.cancel()
-        return usage.ru_maxrss
 
     def wrong(self, right):
         """What was wrong with the talk, if anything, when this output is right."""
@@ -226,8 +233,11 @@ def long_line(program):
     for _ in range(LONG_LINE // len(piece)):
         talk.send(piece)
     talk.send(b"\n(judge)\n")
-    memory = talk.finish()
-    why = talk.wrong(b"(answer 10)\n(verdict 30)\n")
+    right = b"(answer 10)\n(verdict 30)\n"
+    talk.wait_for(len(right))
+    memory = talk.memory()
+    talk.finish()
+    why = talk.wrong(right)
     return why or (f"used {memory} KB of memory" if memory > MOST_MEMORY else None)
 
 
