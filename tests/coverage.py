@@ -1,5 +1,6 @@
-"""Whether the gate's lines reach every code, the figures next to the limits, each thing that show can do and each way in
-which void and grain of a partly filled part lie, by the reference's replies."""
+"""Whether the gate's lines reach every code, the figures next to the limits, each thing that show can do, each way in
+which void and grain of a partly filled part lie and each change of the holds behind which a total can stand, by the
+reference's replies."""
 
 import math
 import re
@@ -11,6 +12,7 @@ from support import run_program, split_lines
 CODES = ["00", "10", "11", "12", "13", "14", "20", "21", "22", "23", "24",
          "30", "31", "32", "33", "34", "40", "41", "42", "43"]
 FORMS = ["ship", "column", "load", "hold", "drop", "clear"]
+MOST_WEIGHT_MOMENT = 1_000_000_000
 LEAST_AREA = 429_718_347
 ANGLES = [0, 500, 1_000, 1_200, 1_500, 2_000, 2_500, 3_000, 3_500, 4_000]
 
@@ -55,6 +57,48 @@ SOUGHT_OF_DECKS = (
     + [f"triangle with {what}" for what in ["a whole base", "an area that just gives its base", "1 mm² less than a longer base"]]
 )
 
+# What the line before a total did to the holds, or would have done had it been taken.
+BEHIND = [
+    "a new hold", "a replaced hold", "a hold turned down with 20", "a hold turned down with 21",
+    "a hold that is held turned down with 20", "a hold that is held turned down with 21",
+    "a drop", "a drop of the last hold", "a drop turned down with 20", "a drop turned down with 24", "a clear of holds",
+    "a judge", "a judge with 34", "a shown hold", "a shown drop of a hold", "a shown clear of holds",
+]
+BEHIND_DAMAGED = [
+    f"a {word} turned down with {code}"
+    for word, codes in [("hold", (10, 11, 12, 13, 14)), ("drop", (11, 12, 13, 14)), ("clear", (11, 12))]
+    for code in codes
+]
+# Sixteen of the heaviest holds.
+GREATEST_TOTAL = 32_089_682_912
+
+SOUGHT_OF_TOTALS = (
+    [f"total in {kind}" for kind in support.KINDS]
+    + [f"total behind {what} in {kind}" for kind in ["runs", "edges", "mixed"] for what in BEHIND]
+    + [f"total behind {what} in damaged" for what in BEHIND_DAMAGED]
+    + [f"total behind {what} in edges" for what in ["a hold turned down with 14", "a clear turned down with 14", "a total"]]
+    + ["total behind a shown hold in shows", "total with free spaces"]
+    + [f"total of {what}" for what in ["no hold", "one hold", "sixteen holds", "holds without weight moment"]]
+    + [f"total of {count} digits" for count in range(1, len(str(GREATEST_TOTAL)) + 1)]
+    + [f"total {what}" for what in ["equal to the limit of 34", "one below the limit of 34", "one above the limit of 34"]]
+    + [f"total {what}" for what in ["above the limit of 34", "of 2**32 or more", "as great as there is"]]
+    + [f"total {what} behind a replaced hold" for what in ["1 more", "1 less", "the same"]]
+    + [f"total with code {code}" for code in ["10", "11", "12", "13", "14"]]
+    + [f"total with {what} with code 14" for what in ["a number", "a word", "a form"]]
+    + ["total four deep with code 14", "total five deep with code 12", "total in a show with code 14"]
+)
+
+# A show that is not the outer form.
+SHOW_WITHIN = re.compile(rb" *\( *\( *show[ (]")
+# The first word of the outer form, and the number behind it; a total with an item behind it; a total in a show.
+FORM = re.compile(rb" *\( *([a-z]+)(?![a-z0-9])(?: +(\d{1,9})(?!\d))?")
+TOTAL_WITH = {
+    "a number": re.compile(rb" *\( *total +\d"),
+    "a word": re.compile(rb" *\( *total +[a-z]"),
+    "a form": re.compile(rb" *\( *total *\("),
+}
+TOTAL_SHOWN = re.compile(rb" *\( *show *\( *total *\) *\) *")
+
 PARTLY_FILLED = re.compile(rb"\( *part +(\d+) +(\d+) +(\d+) +(\d+) *\)")
 BROADEST, DEEPEST = 40_000, 30_000
 
@@ -69,15 +113,16 @@ def check_codes(results):
         for seed in support.GATE_SEEDS:
             data = support.generated(kind, seed, support.GATE_COUNT)
             byte_values.update(data)
-            before = None
+            before, holds = None, Holds(kind)
             for line, reply in zip(split_lines(data), run_program(reference, data).replies()):
                 found.update(names_of(line, reply))
                 found.update(names_of_decks(kind, line, reply))
+                found.update(holds.names_of_total(line, reply))
                 if line == before:
                     found[f"reply sent as the next line, with code {code_of(reply)}"] += 1
                 before = reply
                 longest = max(longest, len(reply))
-    for name in SOUGHT + SOUGHT_OF_SHOW + SOUGHT_OF_DECKS:
+    for name in SOUGHT + SOUGHT_OF_SHOW + SOUGHT_OF_DECKS + SOUGHT_OF_TOTALS:
         results.report(f"reached {name} ({found[name]} times)", None if found[name] else "never")
     missing = sorted(set(range(256)) - byte_values)
     results.report("reached every byte value", f"not {missing}" if missing else None)
@@ -93,7 +138,7 @@ def names_of(line, reply):
     names = [f"code {code}"]
     if (head, code) == ("answer", "00"):
         names.append(f"{first_word(line)} taken")
-    if figures:
+    if head == "verdict" and figures:
         names += names_of_figures(code, *(int(figure) for figure in figures))
     if b"sho" in line:
         names += names_of_refused_show(line, code)
@@ -133,7 +178,10 @@ def names_of_refused_show(line, code):
     """Of a line in which `show` or nearly that word stands, and which is turned down."""
     word, deep = first_word(line), depth(line)
     names = []
-    if word == "show":
+    if SHOW_WITHIN.match(line):
+        if deep == 5:
+            names.append(f"show five deep inside another form with code {code}")
+    elif word == "show":
         names.append(f"show with code {code}")
         if 4 <= deep <= 6:
             names.append(f"show {['four', 'five', 'six'][deep - 4]} deep with code {code}")
@@ -147,8 +195,6 @@ def names_of_refused_show(line, code):
             names.append("show of 2001 bytes")
     elif deep == 5:
         names.append(f"five deep, first word {word if word in ('sho', 'shown', 'showw') else 'other'}, with code {code}")
-        if b"".join(line.split()).startswith(b"((show("):
-            names.append(f"show five deep inside another form with code {code}")
     return names
 
 
@@ -230,3 +276,95 @@ def names_of_edges(breadth, void, grain):
 def whole_base(area):
     """The base of a triangle of this area, rounded down to whole mm."""
     return math.isqrt(200_000 * area // 46_631)
+
+
+class Holds:
+    """Which holds are held, line by line, and what the line before did to them: what a total has to tell of."""
+
+    def __init__(self, kind):
+        self.kind = kind
+        self.held = set()
+        # What the line before did; the total that it replied with, if it was one, and that of the line before it.
+        self.done = []
+        self.told = None
+        self.told_before = None
+
+    def names_of_total(self, line, reply):
+        """Which of the sought things a total line and its reply are, where it is one; then the line counts as taken."""
+        code, (word, number) = code_of(reply), word_and_number(line)
+        names, told = [], None
+        if word == "total" and code == "00":
+            told = int(reply.decode().strip("()").split()[2])
+            names = self._names_of_taken(line, told)
+        elif word == "total":
+            names = names_of_refused_total(line, code)
+        elif TOTAL_SHOWN.fullmatch(line):
+            names = [f"total in a show with code {code}"]
+        self.done = self._done_by_show(reply) if is_shown(reply) else self._done(word, number, code)
+        self.told_before, self.told = self.told, told
+        return names
+
+    def _names_of_taken(self, line, told):
+        names = [f"total in {self.kind}", f"total of {len(str(told))} digits"]
+        names += [f"total behind {what} in {self.kind}" for what in self.done]
+        if line != b"(total)":
+            names.append("total with free spaces")
+        if len(self.held) in (0, 1, 16):
+            names.append("total of " + {0: "no hold", 1: "one hold", 16: "sixteen holds"}[len(self.held)])
+        if self.held and told == 0:
+            names.append("total of holds without weight moment")
+        above = told - MOST_WEIGHT_MOMENT
+        if abs(above) <= 1:
+            names.append("total " + {-1: "one below", 0: "equal to", 1: "one above"}[above] + " the limit of 34")
+        if above > 0:
+            names.append("total above the limit of 34")
+        if told >= 2**32:
+            names.append("total of 2**32 or more")
+        if told == GREATEST_TOTAL:
+            names.append("total as great as there is")
+        if self.told_before is not None and "a replaced hold" in self.done and abs(told - self.told_before) <= 1:
+            more = {-1: "1 less", 0: "the same", 1: "1 more"}[told - self.told_before]
+            names.append(f"total {more} behind a replaced hold")
+        return names
+
+    def _done(self, word, number, code):
+        """What a line does to the holds, or would have done."""
+        is_held, were_held = number in self.held, len(self.held)
+        if word not in ("hold", "drop", "clear"):
+            is_taken = word in ("judge", "total") and code not in ("10", "11", "12", "13", "14")
+            return [f"a {word}", f"a {word} with {code}"] if is_taken else []
+        if code != "00":
+            held = [f"a {word} that is held turned down with {code}"] if is_held else []
+            return held + ([f"a {word} turned down with {code}"] if were_held else [])
+        if word == "hold":
+            self.held.add(number)
+            return ["a replaced hold" if is_held else "a new hold"]
+        if word == "drop":
+            self.held.remove(number)
+            return ["a drop"] if self.held else ["a drop", "a drop of the last hold"]
+        self.held.clear()
+        return ["a clear of holds"] if were_held else []
+
+    def _done_by_show(self, reply):
+        """What a line that is only shown would have done to the holds."""
+        word, number = word_and_number(reply)
+        if word == "drop":
+            return ["a shown drop of a hold"] if number in self.held else []
+        if word == "clear":
+            return ["a shown clear of holds"] if self.held else []
+        return [f"a shown {word}"]
+
+
+def word_and_number(line):
+    """The first item of the outer form, if it is a word, and the number behind it, if there is one."""
+    form = FORM.match(line)
+    return (form[1].decode(), int(form[2]) if form[2] else None) if form else (None, None)
+
+
+def names_of_refused_total(line, code):
+    """Of a line whose first word is `total`, and which is turned down."""
+    names, deep = [f"total with code {code}"], depth(line)
+    names += [f"total with {what} with code {code}" for what, looks in TOTAL_WITH.items() if looks.match(line)]
+    if deep in (4, 5) and TOTAL_WITH["a form"].match(line):
+        names.append(f"total {'four' if deep == 4 else 'five'} deep with code {code}")
+    return names

@@ -34,15 +34,15 @@ new: void = carried (nth v 3); grain = carried (nth v 2)
 """
 
 KG_AND_FS = """
-file: crates/request/src/lib.rt
+file: crates/forms/src/lib.rt
 old:         kg: v[0],
 new:         kg: v[1],
 old:         fs: v[1],
 new:         fs: v[0],
-file: crates/request/specs/Shape.antt
+file: crates/forms/specs/Shape.antt
 old: kg = nth v 0; fs = nth v 1
 new: kg = nth v 1; fs = nth v 0
-file: crates/request/proofs/load_at/Proof.antt
+file: crates/forms/proofs/load_at/Proof.antt
 old: kg = nth x 0; fs = nth x 1
 new: kg = nth x 1; fs = nth x 0
 file: crates/showing/proofs/Framing.antt
@@ -51,14 +51,14 @@ new: kg = nth v 1; fs = nth v 0
 """
 
 NEW_AND_OLD = """
-file: crates/request/src/lib.rt
+file: crates/forms/src/lib.rt
 old: text::same(word, b"new")
 new: text::same(word, b"other")
 old: text::same(word, b"old")
 new: text::same(word, b"new")
 old: text::same(word, b"other")
 new: text::same(word, b"old")
-file: crates/request/specs/Shape.antt
+file: crates/forms/specs/Shape.antt
 old: ("new", Under NewWord) ∷ ("old", Under OldWord)
 new: ("old", Under NewWord) ∷ ("new", Under OldWord)
 """
@@ -246,6 +246,65 @@ def edit(crate, name, laws=""):
     folder = support.CRATES / crate
     return (f"crates/{crate}", (folder / "must-fail" / f"{name}.edit").read_text() + laws)
 
+REPLACED_STAYS_IN = """
+file: crates/storing/src/lib.rt
+old:     let figure = total::exchange(c.total, old, moment);
+new:     let figure = total::exchange(c.total, h, moment);
+file: crates/storing/specs/Storing.antt
+old:       total = exchanged (c .total) (holdAt c n) w;
+new:       total = exchanged (c .total) h w;
+file: crates/storing/proofs/with_hold/Proof.antt
+old: (c .exchange .ensures ∙ ap (λ (h : Hold). exchanged (before .total) h (args .moment)) (sym there)))
+new: (c .exchange .ensures))
+"""
+
+DROP_PUTS_ON = """
+file: crates/effects/src/lib.rt
+old:         Kind::DropLine(n) => storing::with_hold(c, n, record::no_hold(), 0),
+new:         Kind::DropLine(n) => storing::with_hold(c, n, record::no_hold(), c.total),
+file: crates/effects/specs/Effect.antt
+old: (withHold c n noHold 0)
+new: (withHold c n noHold (c .total))
+file: crates/operations/specs/Operations.antt
+old: (withHold c n noHold 0)
+new: (withHold c n noHold (c .total))
+file: crates/operations/proofs/Codes.antt
+old: (withHold c n noHold 0)
+new: (withHold c n noHold (c .total))
+file: crates/operations/proofs/Effects.antt
+old: (cond (isHeld (holdAt c n)) (taken (withHold c n noHold 0)) (refusedWith 24 c)) (refusedWith 20 c)
+new: (cond (isHeld (holdAt c n)) (taken (withHold c n noHold (c .total))) (refusedWith 24 c)) (refusedWith 20 c)
+old: (t .0, passed (isHeld (holdAt c n)) (taken (withHold c n noHold 0))
+new: (t .0, passed (isHeld (holdAt c n)) (taken (withHold c n noHold (c .total)))
+old: dropOperation c n ≡ taken (withHold c n noHold 0)
+new: dropOperation c n ≡ taken (withHold c n noHold (c .total))
+old: withHold c n noHold 0 ≡ dropOperation c n .after
+new: withHold c n noHold (c .total) ≡ dropOperation c n .after
+file: crates/storing/proofs/Stores.antt
+old: HoldDropped c n (withHold c n noHold 0)
+new: HoldDropped c n (withHold c n noHold (c .total))
+old: (at-place n noHold 0 p long), other-places n noHold 0 p
+new: (at-place n noHold (c .total) p long), other-places n noHold (c .total) p
+"""
+
+TOTAL_CAPPED = """
+file: crates.txt
+old: panel: whole record
+new: panel: choice whole record
+file: crates/panel/src/lib.rt
+old: ghost use Prim.Native.Nat.{_≤_};
+new: ghost use Prim.Native.Nat.{_≤_, min};
+old: Replies 0 (totalReply figure) 0 r
+new: Replies 0 (totalReply (min figure 1000000000)) 0 r
+old:     let len = reply::total(out, figure);
+new:     let len = reply::total(out, choice::smaller(figure, 1000000000));
+file: crates/panel/specs/Step.antt
+old: use Prim.Native.Nat.{ℕ}
+new: use Prim.Native.Nat.{ℕ, min}
+old: reply = totalReply (c .total)
+new: reply = totalReply (min (c .total) 1000000000)
+"""
+
 
 FAULTS = {
     "codes_10_and_11": Fault("codes 10 and 11 exchanged", [edit("line_codes", "theorem_10_and_11_exchanged")]),
@@ -272,6 +331,12 @@ FAULTS = {
     "slack_moment_down": Fault("the moment of a triangle of void or grain rounded down", [edit("slack", "theorem_moment_rounded_down")]),
     "no_second_term": Fault("a line from deck to floor without h³/(24 s²)", [edit("slack", "theorem_no_second_term")]),
     "slope_not_squared": Fault("a line from deck to floor with h³/(24 s)", [edit("slack", "theorem_slope_not_squared")]),
+    "replaced_stays_in": Fault("the moment of a replaced hold stays in the figure, the new one's is taken off", [("", REPLACED_STAYS_IN)]),
+    "new_moment_not_put_on": Fault("the moment of a new hold is not put on", [edit("total", "theorem_new_moment_not_put_on")]),
+    "drop_puts_on": Fault("a drop puts the figure on once more", [("", DROP_PUTS_ON)]),
+    "empty_with_a_moment": Fault("a panel newly started or cleared has a moment of 1", [edit("condition", "theorem_empty_with_a_moment")]),
+    "ship_forgets_the_figure": Fault("a new ship forgets the figure", [edit("storing", "theorem_ship_forgets_the_figure")]),
+    "total_capped": Fault("total shows at most 1,000,000,000", [("", TOTAL_CAPPED)]),
     "voided_100": Fault("100 per cent for `voided`", [edit("grain", "theorem_voided_100")]),
     "sine_of_40": Fault("the sine of 40 degrees 642,700", [edit("arms", "theorem_sine_of_40")]),
     "42_beyond_upper": Fault("42 also for an angle above UPPER", [edit("stability", "theorem_42_beyond_upper", UPPER_IN_LAWS)]),

@@ -114,6 +114,31 @@ def longest_shows():
     return data, b"".join(count * b"(verdict 30)\n" + reply for count in counts)
 
 
+def totals():
+    """A total behind each change of the holds, up to sixteen of the heaviest, and behind lines that change none."""
+    hold_1, hold_2 = WORKED_RUN.splitlines()[4:6]
+    heaviest = b"(part 60000 40000 9322 30000)" * 6
+    turns = [
+        (b"(drop 1)", 24, 0),
+        (hold_1, 0, 118_548),
+        (hold_2, 0, 118_548 + 601_653),
+        (hold_2.replace(b"12500", b"10000"), 0, 118_548 + 752_066),
+        (b"(drop 1)", 0, 752_066),
+        (b"(drop 2)", 0, 0),
+        *[(b"(hold %d partial 5000 %s)" % (n, heaviest), 0, n * 2_005_605_182) for n in range(1, 17)],
+        (b"(clear)", 0, 0),
+        (hold_1, 0, 118_548),
+        (hold_1.replace(b"12500", b"4999"), 20, 118_548),
+        (hold_1.replace(b"5000)", b"1)"), 21, 118_548),
+        (b"(drop 2)", 24, 118_548),
+        (b"(total 1)", 14, 118_548),
+        (b"(show (total))", 14, 118_548),
+        (b"(total (a (b (c (d)))))", 12, 118_548),
+    ]
+    data = b"".join(line + b"\n ( total ) \n(total)\n" for line, _, _ in turns)
+    return data, b"".join(b"(answer %02d)\n" % code + b"(answer 00 %d)\n" % total * 2 for _, code, total in turns)
+
+
 INPUTS = [
     ("worked run", WORKED_RUN, WORKED_REPLIES),
     ("worked run without a final byte 10", WORKED_RUN[:-1], WORKED_REPLIES),
@@ -129,6 +154,7 @@ INPUTS = [
     ("every byte value", *every_byte_value()),
     ("the longest reply of show", *longest_show()),
     ("many of the longest replies of show", *longest_shows()),
+    ("totals", *totals()),
     ("show lines between judges", b"(judge)\n(judge)\n(show(judge))\n" * 100_000,
      b"(verdict 30)\n(verdict 30)\n(judge)\n" * 100_000),
 ]

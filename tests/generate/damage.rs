@@ -3,7 +3,7 @@
 use crate::chance::Chance;
 use crate::edges;
 use crate::runs;
-use crate::spelling::{self, CLEAR, JUDGE};
+use crate::spelling::{self, CLEAR, JUDGE, TOTAL};
 use crate::wanted;
 
 type Fault = fn(&mut Chance, Vec<u8>) -> Vec<u8>;
@@ -37,7 +37,7 @@ const FAULTS: [Fault; 26] = [
     spaced_to_a_length,
 ];
 
-/// Damaged lines between valid ones, with judges that show that the condition is as it was.
+/// Damaged lines between valid ones, with judges and totals that show that the condition is as it was.
 pub fn damaged_run(chance: &mut Chance) -> Vec<Vec<u8>> {
     let mut lines: Vec<Vec<u8>> = Vec::new();
     if chance.one_in(3) {
@@ -49,8 +49,10 @@ pub fn damaged_run(chance: &mut Chance) -> Vec<Vec<u8>> {
             lines.push(line.clone());
         }
         lines.push(damaged(chance, line));
-        if chance.one_in(9) {
-            lines.push(JUDGE.as_bytes().to_vec());
+        match chance.below(9) {
+            0 => lines.push(JUDGE.as_bytes().to_vec()),
+            1 | 2 => lines.push(TOTAL.as_bytes().to_vec()),
+            _ => {}
         }
     }
     lines
@@ -265,7 +267,7 @@ fn other_word(chance: &mut Chance, line: Vec<u8>) -> Vec<u8> {
     with_piece(chance, &line, is_word, |chance, pieces, place| {
         let words: &[&[u8]] = &[
             b"ship", b"column", b"load", b"hold", b"drop", b"judge", b"clear", b"new", b"old", b"trimmed", b"voided",
-            b"partial", b"part", b"wing", b"hatch", b"void", b"answer", b"verdict", b"show",
+            b"partial", b"part", b"wing", b"hatch", b"void", b"answer", b"verdict", b"show", b"total",
         ];
         pieces[place] = chance.pick(words).to_vec();
     })
@@ -287,8 +289,19 @@ fn item_between(chance: &mut Chance, line: Vec<u8>) -> Vec<u8> {
         &line,
         |_| true,
         |chance, pieces, place| {
-            let items: &[&[u8]] =
-                &[b"7", b"0", b"void", b"zz", b"()", b"(1)", b"(part 1 1 1 1)", b"(void 1 1 1)", b"((1))", b"(judge)"];
+            let items: &[&[u8]] = &[
+                b"7",
+                b"0",
+                b"void",
+                b"zz",
+                b"()",
+                b"(1)",
+                b"(part 1 1 1 1)",
+                b"(void 1 1 1)",
+                b"((1))",
+                b"(judge)",
+                b"(total)",
+            ];
             pieces.insert(place, chance.pick(items).to_vec());
         },
     )
@@ -328,8 +341,8 @@ fn line_cut(chance: &mut Chance, mut line: Vec<u8>) -> Vec<u8> {
     line
 }
 
-const OUTSIDE: [&[u8]; 12] =
-    [b"a", b"0", b"(", b")", b"()", b"judge", b" x ", b"  7", b"00", b";", b"\t", b"\xef\xbb\xbf"];
+const OUTSIDE: [&[u8]; 13] =
+    [b"a", b"0", b"(", b")", b"()", b"judge", b"total", b" x ", b"  7", b"00", b";", b"\t", b"\xef\xbb\xbf"];
 
 fn text_outside(chance: &mut Chance, line: Vec<u8>) -> Vec<u8> {
     let text = chance.pick(&OUTSIDE).to_vec();
@@ -341,7 +354,7 @@ fn text_outside(chance: &mut Chance, line: Vec<u8>) -> Vec<u8> {
 }
 
 fn two_forms(chance: &mut Chance, line: Vec<u8>) -> Vec<u8> {
-    let other: &[u8] = chance.pick(&[b"(clear)".as_slice(), b"(judge)", b" (drop 1)", b"()"]);
+    let other: &[u8] = chance.pick(&[b"(clear)".as_slice(), b"(judge)", b"(total)", b" (drop 1)", b"()"]);
     if chance.one_in(2) {
         [line.as_slice(), other].concat()
     } else {
@@ -385,7 +398,7 @@ fn spaced_to_a_length(chance: &mut Chance, mut line: Vec<u8>) -> Vec<u8> {
 }
 
 /// Lines that no change of a good line brings about.
-const FAULTY_LINES: [&[u8]; 32] = [
+const FAULTY_LINES: [&[u8]; 37] = [
     b"",
     b" ",
     b"     ",
@@ -412,6 +425,11 @@ const FAULTY_LINES: [&[u8]; 32] = [
     b")(",
     b"(judge)\r",
     b"(Judge)",
+    b"total",
+    b"(total",
+    b"(total)\r",
+    b"(TOTAL)",
+    b"(total 00 A)",
     b"(show)",
     b"(show (a (b (c (d)))))",
     b"(show (a (b (c (01)))))",
@@ -435,7 +453,7 @@ fn faulty_from_the_start(chance: &mut Chance) -> Vec<u8> {
             // One long line of a good or bad sort, its length at or next to 2,000 bytes.
             let length = 1_999 + chance.below(3);
             let filler = chance.pick(b" a1(\r");
-            let mut line = chance.pick(&[CLEAR, "(drop 1)", "", "("]).as_bytes().to_vec();
+            let mut line = chance.pick(&[CLEAR, TOTAL, "(drop 1)", "", "("]).as_bytes().to_vec();
             line.resize(length, filler);
             line
         }

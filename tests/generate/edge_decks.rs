@@ -5,7 +5,7 @@ use crate::deck::{self, Lie};
 use crate::records::depth_reached;
 use crate::search::least_that_holds;
 use crate::shape::{Hold, Mode, Part};
-use crate::spelling::{self, JUDGE};
+use crate::spelling::{self, JUDGE, TOTAL};
 use crate::wanted;
 
 /// Breadth, and the depths of void and grain, the one and the other of them.
@@ -192,7 +192,8 @@ pub fn greatest_and_least_sizes(chance: &mut Chance) -> Vec<String> {
     let parts = vec![Part::PartlyFilled { length: LONGEST, breadth, void, grain }; 6];
     for sf in [5_000, 40_000] {
         lines.push(spelling::hold(&Hold { n: 2, mode: Mode::Partial, sf, parts: parts.clone() }));
-        lines.push(JUDGE.to_string());
+        // Of a weight moment that gives 34 the total alone tells how great it is.
+        lines.extend([JUDGE, TOTAL].map(str::to_string));
     }
     lines
 }

@@ -5,7 +5,7 @@ use crate::grain;
 use crate::panel::MOST_WEIGHT_MOMENT;
 use crate::records;
 use crate::shape::{Cell, Hold, Mode, Part};
-use crate::spelling::{self, JUDGE};
+use crate::spelling::{self, JUDGE, TOTAL};
 use crate::wanted;
 
 /// Weight moments together of 1,000,000,000 and next to it (34).
@@ -19,7 +19,7 @@ pub fn weight_moments_at_the_limit(chance: &mut Chance) -> Vec<String> {
         let holds = wanted::holds_of_weight(MOST_WEIGHT_MOMENT + by);
         lines.extend(holds.iter().map(spelling::hold));
         lines.extend((holds.len() + 1..=held).map(|n| spelling::drop(n as i128)));
-        lines.push(JUDGE.to_string());
+        lines.extend([TOTAL, JUDGE].map(str::to_string));
         held = holds.len();
     }
     lines
@@ -215,7 +215,8 @@ pub fn greatest_sections(chance: &mut Chance) -> Vec<String> {
         }
         let mode = chance.pick(&[Mode::Trimmed, Mode::Voided]);
         lines.push(spelling::hold(&Hold { n: 2, mode, sf: chance.pick(&[5_000, 5_001, 40_000]), parts }));
-        lines.push(JUDGE.to_string());
+        // Of a weight moment that gives 34 the total alone tells how great it is.
+        lines.extend([JUDGE, TOTAL].map(str::to_string));
     }
     lines
 }

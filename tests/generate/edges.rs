@@ -4,14 +4,16 @@ use crate::chance::Chance;
 use crate::edge_arms;
 use crate::edge_decks;
 use crate::edge_figures;
+use crate::edge_totals;
 use crate::edge_voids;
 use crate::shows;
 use crate::spelling;
+use crate::totals;
 
 type Family = fn(&mut Chance) -> Vec<String>;
 
 /// Single fields have a greater share, since there are many of them.
-const FAMILIES: [Family; 36] = [
+const FAMILIES: [Family; 41] = [
     edge_figures::field_limits,
     edge_figures::field_limits,
     edge_figures::field_limits,
@@ -48,12 +50,18 @@ const FAMILIES: [Family; 36] = [
     edge_figures::columns_not_above,
     edge_arms::greatest_arms,
     edge_voids::greatest_sections,
+    edge_totals::totals_at_powers,
+    edge_totals::sixteen_holds,
+    edge_totals::replaced_by_one_more,
+    edge_totals::totals_that_stay,
+    edge_totals::totals_turned_down,
 ];
 
 /// The lines of one family of limits.
 pub fn edge(chance: &mut Chance) -> Vec<Vec<u8>> {
     let family = chance.pick(&FAMILIES);
     let lines = family(chance);
+    let lines = totals::with_totals(chance, lines, 4);
     let lines = lines.iter().map(|line| spelling::respaced(chance, line)).collect();
     shows::with_shows(chance, lines)
 }

@@ -4,7 +4,7 @@
 //! - `edges`: figures next to each limit
 //! - `damaged`: lines with every kind of fault
 //! - `mixed`: all of these, damaged lines between valid ones
-//! - `shows`: show lines alone; about one in ten lines of the other kinds is a show line too
+//! - `shows`: show lines, with totals between them; about one in ten lines of the other kinds is a show line too
 //!
 //! COUNT lines are written, each ended by byte 10. The reference's own modules find the figures next to a limit.
 
@@ -13,6 +13,7 @@ mod damage;
 mod edge_arms;
 mod edge_decks;
 mod edge_figures;
+mod edge_totals;
 mod edge_voids;
 mod edges;
 mod records;
@@ -20,6 +21,7 @@ mod runs;
 mod search;
 mod shows;
 mod spelling;
+mod totals;
 mod wanted;
 
 #[path = "../reference/arms.rs"]

@@ -1,4 +1,4 @@
-//! Valid lines in runs, as a mate would send them, and odd ones, reaching every code but 10 to 13.
+//! Valid lines in runs, as a mate would send them, and odd ones, reaching every code; 10 to 13 seldom.
 
 use crate::chance::Chance;
 use crate::damage;
@@ -6,6 +6,7 @@ use crate::records;
 use crate::shape::Column;
 use crate::shows;
 use crate::spelling::{self, CLEAR, JUDGE};
+use crate::totals;
 
 /// One run: most often a clear, a ship with its columns, load and holds, then changes with judges between them.
 pub fn run(chance: &mut Chance) -> Vec<Vec<u8>> {
@@ -23,8 +24,9 @@ pub fn run(chance: &mut Chance) -> Vec<Vec<u8>> {
     if !chance.one_in(15) {
         records.push(load(chance, likely, &columns));
     }
+    let mut sent = Vec::new();
     for _ in 0..chance.below(5) {
-        records.push(hold(chance, likely));
+        records.push(hold(chance, likely, &mut sent));
     }
     if chance.one_in(4) && !records.is_empty() {
         // Columns must keep their order; the other records may come at any place.
@@ -40,9 +42,10 @@ pub fn run(chance: &mut Chance) -> Vec<Vec<u8>> {
     }
     lines.push(JUDGE.to_string());
     for _ in 0..chance.below(10) {
-        lines.push(change(chance, likely, &columns));
+        lines.push(change(chance, likely, &columns, &mut sent));
         lines.push(JUDGE.to_string());
     }
+    let lines = totals::with_totals(chance, lines, 2);
     let lines = lines.iter().map(|line| spoilt_or_respaced(chance, line)).collect();
     shows::with_shows(chance, lines)
 }
@@ -77,13 +80,24 @@ fn load(chance: &mut Chance, likely: bool, columns: &[Column]) -> String {
     spelling::load(&load)
 }
 
-fn hold(chance: &mut Chance, likely: bool) -> String {
-    let hold = if likely { records::likely_hold(chance) } else { records::odd_hold(chance) };
+/// A hold, one in four under the number of one that was sent before.
+fn hold(chance: &mut Chance, likely: bool, sent: &mut Vec<i128>) -> String {
+    let mut hold = if likely { records::likely_hold(chance) } else { records::odd_hold(chance) };
+    if chance.one_in(4) && !sent.is_empty() {
+        hold.n = chance.pick(sent);
+    }
+    sent.push(hold.n);
     spelling::hold(&hold)
 }
 
-/// One further record or a drop, as a condition is altered between two judges.
-fn change(chance: &mut Chance, likely: bool, columns: &[Column]) -> String {
+/// A drop, every other one of a hold that was sent before.
+fn drop(chance: &mut Chance, sent: &[i128]) -> String {
+    let is_sent = chance.one_in(2) && !sent.is_empty();
+    spelling::drop(if is_sent { chance.pick(sent) } else { chance.odd(1, 16) })
+}
+
+/// One further record or a drop, as a condition is altered between two judges. The numbers are those of the holds sent.
+fn change(chance: &mut Chance, likely: bool, columns: &[Column], sent: &mut Vec<i128>) -> String {
     match chance.below(20) {
         0 if chance.one_in(2) => CLEAR.to_string(),
         0 => too_heavy_a_hold(chance),
@@ -96,9 +110,9 @@ fn change(chance: &mut Chance, likely: bool, columns: &[Column]) -> String {
             spelling::column(&extra)
         }
         4..=8 => load(chance, likely, columns),
-        9..=11 => spelling::drop(chance.odd(1, 16)),
-        12 => hold(chance, false),
-        _ => hold(chance, likely),
+        9..=11 => drop(chance, sent),
+        12 => hold(chance, false, sent),
+        _ => hold(chance, likely, sent),
     }
 }
 

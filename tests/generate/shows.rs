@@ -5,14 +5,14 @@ use crate::damage;
 use crate::line::{self, LONGEST_LINE};
 use crate::records;
 use crate::show;
-use crate::spelling::{self, CLEAR, JUDGE};
+use crate::spelling::{self, CLEAR, JUDGE, TOTAL};
 
 /// Words that are nearly `show`, and others: no line that begins with one of them may be five deep.
 const OTHER_WORDS: [&str; 12] =
     ["shown", "sho", "showw", "shows", "sshow", "how", "s", "show1", "sh0w", "showshow", "sho w", "tell"];
 
 /// What show is not around, and words in the wrong place: 14.
-const NO_FORM: [&str; 22] = [
+const NO_FORM: [&str; 25] = [
     "(show)",
     "(show ())",
     "(show (()))",
@@ -27,6 +27,9 @@ const NO_FORM: [&str; 22] = [
     "(show 1 (judge))",
     "(show show (judge))",
     "(show (answer 14))",
+    "(show (total))",
+    "(show total)",
+    "(show (total) (judge))",
     "(show (part 1 (void 1 1 1)))",
     "(show (part 1 1 1 1))",
     "(show (wing 1 2 3 4))",
@@ -61,7 +64,7 @@ pub fn with_shows(chance: &mut Chance, lines: Vec<Vec<u8>>) -> Vec<Vec<u8>> {
     all
 }
 
-/// Show lines alone, most of them taken.
+/// Show lines, most of them taken. There is no condition, and none comes about: a total now and then tells.
 pub fn alone(chance: &mut Chance) -> Vec<Vec<u8>> {
     let line = match chance.below(20) {
         0 => turned_down(chance),
@@ -72,7 +75,11 @@ pub fn alone(chance: &mut Chance) -> Vec<Vec<u8>> {
             around(chance, record.as_bytes())
         }
     };
-    vec![line]
+    let mut lines = vec![line];
+    if chance.one_in(10) {
+        lines.push(spaced(chance, TOTAL.as_bytes()));
+    }
+    lines
 }
 
 /// A line's form as show replies with it; a line that has no form stays as it is.

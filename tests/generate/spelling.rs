@@ -6,6 +6,7 @@ use crate::shape::{Cell, Column, Hold, Load, Mode, Part, Rule, Ship};
 
 pub const JUDGE: &str = "(judge)";
 pub const CLEAR: &str = "(clear)";
+pub const TOTAL: &str = "(total)";
 
 pub fn ship(ship: &Ship) -> String {
     let rule = match ship.rule {

@@ -50,23 +50,28 @@ pub const DEEP: i128 = 10_000;
 /// A heavy part of a partial hold: the longest and broadest, not cut by deck or floor.
 const HEAVY: Part = Part::PartlyFilled { length: 60_000, breadth: 40_000, void: DEEP, grain: DEEP };
 
+/// Partial holds from heavy to less heavy: how many heavy parts, and the stowage factor.
+const HEAVY_HOLDS: [(usize, i128); 3] = [(6, 5_000), (6, 10_000), (1, 10_000)];
+
 /// Sections from heavy to light; the last is below 10⁹ mm³, so that one more mm of length adds at most 1 kg·m.
-const SECTIONS: [Cell; 4] = [
+pub const SECTIONS: [Cell; 4] = [
     Cell::Void { width: 40_000, depth: 4_650, lip: 10_000 },
     Cell::Void { width: 40_000, depth: 1_000, lip: 10_000 },
     Cell::Void { width: 10_000, depth: 500, lip: 5_000 },
     Cell::Void { width: 4_000, depth: 100, lip: 1_000 },
 ];
 
-/// Holds whose weight moments together are exactly this, up to a little above 1,000,000,000.
+/// Holds whose weight moments together are exactly this, numbered from 1; up to 18,000,000,000 there are at most sixteen.
 pub fn holds_of_weight(total: i128) -> Vec<Hold> {
     let mut holds = Vec::new();
     let mut rest = total;
-    let heavy = Hold { n: 0, mode: Mode::Partial, sf: 10_000, parts: vec![HEAVY] };
-    let heavy_weight = grain::weight_moment(&heavy).expect("a partial hold always fits");
-    while rest > heavy_weight {
-        holds.push(Hold { n: holds.len() as i128 + 1, ..heavy.clone() });
-        rest -= heavy_weight;
+    for (count, sf) in HEAVY_HOLDS {
+        let heavy = Hold { n: 0, mode: Mode::Partial, sf, parts: vec![HEAVY; count] };
+        let heavy_weight = grain::weight_moment(&heavy).expect("a partial hold always fits");
+        while rest > heavy_weight {
+            holds.push(Hold { n: holds.len() as i128 + 1, ..heavy.clone() });
+            rest -= heavy_weight;
+        }
     }
     let mut parts = Vec::new();
     for cell in SECTIONS {

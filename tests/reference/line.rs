@@ -55,7 +55,7 @@ fn is_run_byte(byte: u8) -> bool {
 /// How deep a line may be nested: the first item of its outer form decides. Of a line that is not one form, which is
 /// code 12 at any depth, it does not matter.
 fn deepest(tokens: Tokens) -> usize {
-    if tokens.begin_with_show() {
+    if tokens.begin_with(b"show") {
         DEEPEST_OF_SHOW
     } else {
         DEEPEST
@@ -123,9 +123,9 @@ pub fn number(run: &[u8]) -> Option<i128> {
 }
 
 impl<'a> Tokens<'a> {
-    /// Whether the first item of the outer form is the word `show`.
-    pub fn begin_with_show(mut self) -> bool {
-        self.next() == Some(Token::Open) && self.next() == Some(Token::Run(b"show"))
+    /// Whether the first item of the outer form is this word.
+    pub fn begin_with(mut self, word: &[u8]) -> bool {
+        self.next() == Some(Token::Open) && self.next() == Some(Token::Run(word))
     }
 
     /// Those of the tokens that come before `later`, which is what is left of them after some calls of `next`.
@@ -222,7 +222,7 @@ mod tests {
         ] {
             assert_eq!(code(line.as_bytes()), Code::NotOneForm, "{line:?}");
         }
-        for line in ["()", "(judge)", "  ( judge )  ", "((((a))))", "(()())", "(a(b)(c(d(e))))"] {
+        for line in ["()", "(judge)", "  ( judge )  ", "((((a))))", "(()())", "(a(b)(c(d(e))))", "(total(a(b(c))))"] {
             assert_eq!(code(line.as_bytes()), Code::Done, "{line:?}");
         }
         assert_eq!(code(b"(drop 00"), Code::NotOneForm, "12 comes before 13");
@@ -255,6 +255,8 @@ mod tests {
             "((show (a (b (c)))))",
             "((((show))) (((((a))))))",
             "(judge (show (a (b (c)))))",
+            "(total (a (b (c (d)))))",
+            "(total (show (a (b (c)))))",
             "(show (a (b (c (d))))) (judge)",
             "(judge) (show (a (b (c (d)))))",
             "show (show (a (b (c (d)))))",

@@ -32,6 +32,8 @@ pub struct Condition {
 enum Reply<'a> {
     /// `(answer CC)`
     Answer(Code),
+    /// `(answer 00 W)`, of total
+    Total(i128),
     /// The form that show is around, in one spelling
     Shown(Tokens<'a>),
     /// `(verdict CC)`, of 30 to 34
@@ -56,6 +58,7 @@ impl Condition {
             Ok(Request::Form(form)) => self.take(form),
             Ok(Request::Show(_)) if lent < LEAST_FOR_SHOW => Reply::Answer(Code::ShortForShow),
             Ok(Request::Show(shown)) => Reply::Shown(shown),
+            Ok(Request::Total) => Reply::Total(self.total_weight_moment()),
             Err(code) => Reply::Answer(code),
         }
     }
@@ -142,7 +145,8 @@ impl Condition {
         &mut self.weight_moments[n as usize - 1]
     }
 
-    /// W, the total weight moment, 0 without holds.
+    /// W, the total weight moment, 0 without holds. It is added up hold by hold whenever it is asked for: a program that
+    /// stores the sum (document 02, P4) is compared with it after every change.
     fn total_weight_moment(&self) -> i128 {
         self.weight_moments.iter().flatten().sum()
     }
@@ -173,7 +177,7 @@ impl Reply<'_> {
     fn code(&self) -> Code {
         match self {
             Reply::Answer(code) | Reply::NoVerdict(code) => *code,
-            Reply::Shown(_) => Code::Done,
+            Reply::Shown(_) | Reply::Total(_) => Code::Done,
             Reply::Verdict(verdict) => verdict.code,
         }
     }
@@ -186,6 +190,7 @@ impl Reply<'_> {
         let number = self.code().number();
         let written = match self {
             Reply::Answer(_) => writeln!(left, "(answer {number:02})"),
+            Reply::Total(weight_moment) => writeln!(left, "(answer {number:02} {weight_moment})"),
             Reply::NoVerdict(_) => writeln!(left, "(verdict {number:02})"),
             Reply::Shown(form) => left.write_all(&show::spelled(*form)).and_then(|()| writeln!(left)),
             Reply::Verdict(Verdict { gm, diff, upper, area, .. }) => {
@@ -270,7 +275,7 @@ mod tests {
     fn fifteen_comes_before_everything_and_writes_nothing() {
         let mut condition = after(&RUN[..6]);
         let before = condition.clone();
-        for line in ["(clear)", "(judge)", "A", ""] {
+        for line in ["(clear)", "(judge)", "(total)", "A", ""] {
             let mut buffer = [b'#'; LEAST_BUFFER - 1];
             assert_eq!(condition.step(line.as_bytes(), &mut buffer), (Code::ShortBuffer, 0));
             assert_eq!(buffer, [b'#'; LEAST_BUFFER - 1]);
@@ -295,6 +300,98 @@ mod tests {
         let mut buffer = [0; LEAST_BUFFER];
         let length = Reply::Verdict(figures).write(&mut buffer);
         assert_eq!(&buffer[..length], b"(verdict 40 -60000000 -10060000000 4000 200000000000)\n");
+    }
+
+    #[test]
+    fn total_of_an_empty_condition_is_0() {
+        let mut condition = Condition::default();
+        assert_eq!(reply(&mut condition, "(total)"), "(answer 00 0)\n");
+        assert_eq!(condition, Condition::default());
+        let mut without_holds = after(&RUN[..4]);
+        assert_eq!(reply(&mut without_holds, "(total)"), "(answer 00 0)\n");
+    }
+
+    #[test]
+    fn total_follows_each_hold_that_is_new_replaced_or_dropped() {
+        let mut condition = Condition::default();
+        for (line, total) in [
+            (RUN[4], 118_548),
+            (RUN[5], 118_548 + 601_653),
+            // Hold 2 with the stowage factor 10,000: 752,066.
+            ("(hold 2 partial 10000 (part 10000 12000 3000 6000))", 118_548 + 752_066),
+            ("(hold 2 partial 10000 (part 10000 12000 3000 6000))", 118_548 + 752_066),
+            (RUN[5], 118_548 + 601_653),
+            ("(hold 16 trimmed 12500 (part 10000 (void 10000 500 5000)))", 2 * 118_548 + 601_653),
+            ("(hold 1 trimmed 12500 (part 10000 (void 10000 0 0)))", 118_548 + 601_653),
+            ("(drop 1)", 118_548 + 601_653),
+            ("(drop 2)", 118_548),
+            ("(drop 16)", 0),
+            (RUN[5], 601_653),
+            ("(clear)", 0),
+            (RUN[4], 118_548),
+        ] {
+            assert_eq!(reply(&mut condition, line), "(answer 00)\n", "{line}");
+            let before = condition.clone();
+            for _ in 0..2 {
+                assert_eq!(reply(&mut condition, "(total)"), format!("(answer 00 {total})\n"), "{line}");
+            }
+            assert_eq!(condition, before, "total changes nothing");
+        }
+    }
+
+    #[test]
+    fn total_stays_after_a_line_that_is_turned_down_or_concerns_no_hold() {
+        let mut condition = after(&RUN[..6]);
+        for (line, number) in [
+            ("(hold 1 trimmed 4999 (part 10000 (void 10000 500 5000)))", 20),
+            ("(hold 17 trimmed 12500 (part 10000 (void 10000 500 5000)))", 20),
+            ("(hold 3 partial 12500 (part 10000 0 3000 6000))", 20),
+            ("(hold 1 trimmed 12500 (part 10000 (void 10000 500 1)))", 21),
+            ("(hold 3 voided 12500 (part 10000 (void 10000 500 5000)) (part 10000 (void 10000 500 1)))", 21),
+            ("(hold 1 trimmed 12500 (part 10000))", 14),
+            ("(drop 17)", 20),
+            ("(drop 3)", 24),
+            ("(total 1)", 14),
+            ("(show (total))", 14),
+            ("(total 01)", 13),
+            ("(total", 12),
+            ("(Total)", 11),
+            ("(clear 1)", 14),
+            ("(judge)", 0),
+            ("(ship old 1 1)", 0),
+            ("(load 20000 1 0)", 0),
+            ("(load 1 1 1)", 20),
+        ] {
+            assert_eq!(code(&mut condition, line), number, "{line}");
+            assert_eq!(reply(&mut condition, "(total)"), "(answer 00 720201)\n", "{line}");
+        }
+        assert_eq!(shown(&mut condition, "(show (clear))"), "(clear)\n");
+        assert_eq!(shown(&mut condition, "(show (drop 1))"), "(drop 1)\n");
+        assert_eq!(reply(&mut condition, "(total)"), "(answer 00 720201)\n");
+    }
+
+    #[test]
+    fn total_above_the_limit_of_34_is_shown() {
+        let mut condition = after(&RUN[..4]);
+        condition.weight_moments[0] = Some(999_999_999);
+        condition.weight_moments[15] = Some(1);
+        assert_eq!(reply(&mut condition, "(total)"), "(answer 00 1000000000)\n");
+        condition.weight_moments[7] = Some(1);
+        assert_eq!(code(&mut condition, "(judge)"), 34);
+        assert_eq!(reply(&mut condition, "(total)"), "(answer 00 1000000001)\n");
+    }
+
+    #[test]
+    fn the_greatest_total_is_32089682912() {
+        let mut condition = Condition::default();
+        let heaviest = "(part 60000 40000 9322 30000)".repeat(6);
+        for n in 1..=16 {
+            assert_eq!(code(&mut condition, &format!("(hold {n} partial 5000 {heaviest})")), 0);
+            assert_eq!(reply(&mut condition, "(total)"), format!("(answer 00 {})\n", n * 2_005_605_182_i64));
+        }
+        assert_eq!(reply(&mut condition, "(total)"), "(answer 00 32089682912)\n");
+        assert_eq!(code(&mut condition, "(drop 7)"), 0);
+        assert_eq!(reply(&mut condition, "(total)"), "(answer 00 30084077730)\n");
     }
 
     #[test]
@@ -452,6 +549,7 @@ mod tests {
                 ("(show (drop 99))", 16),
                 ("(show)", 14),
                 ("(show (show (judge)))", 14),
+                ("(show (total))", 14),
                 ("(show (a (b (c (d)))))", 14),
                 ("(show (drop 01))", 13),
                 ("(show (judge)", 12),
@@ -463,6 +561,7 @@ mod tests {
                 assert_eq!(lent(&mut condition, line, bytes), (number, format!("(answer {number})\n")), "{line}");
             }
             assert_eq!(lent(&mut condition, "(judge)", bytes), (0, VERDICT.to_string()), "96 bytes are enough");
+            assert_eq!(lent(&mut condition, "(total)", bytes), (0, "(answer 00 720201)\n".to_string()));
         }
         for bytes in [2_100, 2_101, 5_000] {
             assert_eq!(lent(&mut condition, "(show (clear))", bytes), (0, "(clear)\n".to_string()));

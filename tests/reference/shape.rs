@@ -95,6 +95,8 @@ pub enum Request<'a> {
     Form(Form),
     /// `(show FORM)`: the tokens of FORM, which has the shape of one of the seven.
     Show(Tokens<'a>),
+    /// `(total)` (document 02, P4). It is none of document 01's forms, so that show does not take it.
+    Total,
 }
 
 impl Cell {
@@ -114,16 +116,32 @@ impl Cell {
 /// What a line's tokens ask for, or code 14. The tokens are those of one closed form.
 pub fn request(tokens: Tokens<'_>) -> Result<Request<'_>, Code> {
     let mut items = Items { tokens };
-    if !tokens.begin_with_show() {
-        return Ok(Request::Form(form(&mut items)?));
+    if tokens.begin_with(b"show") {
+        return show(&mut items);
     }
+    if tokens.begin_with(b"total") {
+        return total(&mut items);
+    }
+    Ok(Request::Form(form(&mut items)?))
+}
+
+/// `show` and one of the seven forms.
+fn show<'a>(items: &mut Items<'a>) -> Result<Request<'a>, Code> {
     items.open()?;
     items.word()?;
     let shown = items.tokens;
-    form(&mut items)?;
+    form(items)?;
     let shown = shown.before(items.tokens);
     items.close()?;
     Ok(Request::Show(shown))
+}
+
+/// `total` alone.
+fn total<'a>(items: &mut Items<'a>) -> Result<Request<'a>, Code> {
+    items.open()?;
+    items.word()?;
+    items.close()?;
+    Ok(Request::Total)
 }
 
 /// One of the seven forms.
@@ -278,7 +296,7 @@ mod tests {
     fn read_form(line: &str) -> Result<Form, Code> {
         match read(line.as_bytes()).and_then(request)? {
             Request::Form(form) => Ok(form),
-            Request::Show(_) => panic!("a show form: {line:?}"),
+            other => panic!("{other:?}: {line:?}"),
         }
     }
 
@@ -286,7 +304,7 @@ mod tests {
     fn read_shown(line: &str) -> Result<Vec<Token<'_>>, Code> {
         match read(line.as_bytes()).and_then(request)? {
             Request::Show(shown) => Ok(shown.collect()),
-            Request::Form(form) => panic!("{form:?}: {line:?}"),
+            other => panic!("{other:?}: {line:?}"),
         }
     }
 
@@ -438,6 +456,12 @@ mod tests {
             "(show (void 1 1 1))",
             "(show (0 1 2 3 4 5 6 7 8 9))",
             "(show (answer 14))",
+            "(show (total))",
+            "(show(total))",
+            "(show total)",
+            "(show (total 1))",
+            "(show (total) (judge))",
+            "(show (judge) (total))",
             "(show (judge 1))",
             "(show (judge1))",
             "(show (drop))",
@@ -454,6 +478,36 @@ mod tests {
             "(sho w (judge))",
             "((show) (judge))",
             "((show (judge)))",
+        ] {
+            assert_eq!(read(line.as_bytes()).and_then(request), Err(Code::NoSuchShape), "{line:?}");
+        }
+    }
+
+    #[test]
+    fn total_stands_alone() {
+        for line in ["(total)", " ( total ) ", "(total   )"] {
+            assert_eq!(read(line.as_bytes()).and_then(request), Ok(Request::Total), "{line:?}");
+        }
+        for line in [
+            "(total 1)",
+            "(total 0)",
+            "(total a)",
+            "(total total)",
+            "(total ())",
+            "(total (1))",
+            "(total (total))",
+            "(total (judge))",
+            "(total (a (b (c))))",
+            "((total))",
+            "((((total))))",
+            "((total) 1)",
+            "(1 total)",
+            "(total1)",
+            "(totals)",
+            "(tota)",
+            "(to tal)",
+            "(judge total)",
+            "(clear (total))",
         ] {
             assert_eq!(read(line.as_bytes()).and_then(request), Err(Code::NoSuchShape), "{line:?}");
         }

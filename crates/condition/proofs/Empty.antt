@@ -15,4 +15,5 @@ starts-empty =
       load = refl;
       columns = refl;
       holds = λ n p q. ap (λ (h : Hold). h .head .count) (getD-replicate 16 (n - 1) noHold noHold (omega arith));
+      total = refl;
     }

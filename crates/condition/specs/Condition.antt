@@ -18,7 +18,15 @@ noLoad = record { d = 0; kg = 0; fs = 0 }
 -- the condition at the start and after a clear: everything empty
 abbrev pub empty : Condition
 empty =
-    record { shipped = false; ship = noShip; loaded = false; load = noLoad; columns = noColumns; holds = replicate 16 noHold }
+    record {
+      shipped = false;
+      ship = noShip;
+      loaded = false;
+      load = noLoad;
+      columns = noColumns;
+      holds = replicate 16 noHold;
+      total = 0;
+    }
 
 -- whether a place holds a hold
 abbrev pub isHeld : Hold → Bool

@@ -7,9 +7,10 @@ use Rattle.record.specs.Held.{held}
 use Rattle.record.specs.Filler.{noHold}
 use Rattle.condition.specs.declared.Condition.{Condition}
 
--- no ship, no load, no column, and no hold in any of the sixteen places
+-- no ship, no load, no column, no hold in any of the sixteen places, and no weight moment
 pub record Nothing (c : Condition) : Type 0 where
   pub ship : c .shipped ≡ false
   pub load : c .loaded ≡ false
   pub columns : length (held (c .columns)) ≡ 0
   pub holds : (n : ℕ) → 1 ≤ n → n ≤ 16 → getD (c .holds) (n - 1) noHold .head .count ≡ 0
+  pub total : c .total ≡ 0

@@ -7,7 +7,7 @@ use record::Ship;
 ghost use mathlib.Core.Path.{_≡_};
 ghost use Rattle.condition.specs.Condition.{empty};
 
-// One loading condition of one ship. A place of `holds` with no parts holds no hold.
+// One loading condition of one ship. A place of `holds` with no parts holds no hold; `total` is the weight moment of all holds, in kg·m.
 pub struct Condition {
     pub shipped: bool,
     pub ship: Ship,
@@ -15,6 +15,7 @@ pub struct Condition {
     pub load: Load,
     pub columns: Columns,
     pub holds: [Hold; 16],
+    pub total: u64,
 }
 
 // The condition at the start, and after a clear.
@@ -35,5 +36,6 @@ pub fn empty_condition() -> Condition
         load,
         columns: record::no_columns(),
         holds,
+        total: 0,
     }
 }

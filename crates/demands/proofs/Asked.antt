@@ -12,7 +12,7 @@ use Rattle.line_codes.specs.declared.Reading.the-variants.{Sound, TooLong, BadB
 use Rattle.text.specs.Token.{tokens}
 use Rattle.line_codes.specs.Line.{readingOf, readingCode}
 use Rattle.line_codes.proofs.Codes.{line-code}
-use Rattle.request.specs.declared.Kind.{Kind}
+use Rattle.forms.specs.declared.Kind.{Kind}
 use Rattle.condition.specs.declared.Condition.{Condition}
 use Rattle.panel.specs.Step.{Outcome, outcomeBy, outcomeOf, outcomeAfter, stepOf}
 use Rattle.demands.specs.Codes.{request, SoundLine, Asks}

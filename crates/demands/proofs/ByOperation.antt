@@ -16,8 +16,8 @@ use Rattle.line_codes.specs.declared.Reading.the-variants.{Sound, TooLong, BadB
 use Rattle.text.specs.Token.{tokens}
 use Rattle.line_codes.specs.Line.{readingOf, readingCode}
 use Rattle.line_codes.proofs.Codes.{line-code}
-use Rattle.request.specs.declared.Kind.{Kind}
-use Rattle.request.specs.declared.Kind.the-variants.{ShipLine, ColumnLine, LoadLine, HoldLine, DropLine, JudgeLine, ClearLine, ShowLine, NoShape}
+use Rattle.forms.specs.declared.Kind.{Kind}
+use Rattle.forms.specs.declared.Kind.the-variants.{ShipLine, ColumnLine, LoadLine, HoldLine, DropLine, JudgeLine, ClearLine, ShowLine, TotalLine, NoShape}
 use Rattle.condition.specs.declared.Condition.{Condition}
 use Rattle.judging.specs.declared.Judged.{Judged}
 use Rattle.judging.specs.declared.Judged.the-variants.{Refused, Given}
@@ -48,6 +48,7 @@ only (DropLine n) = (λ e. cc, λ e. cc)
 only JudgeLine = (λ e. cc, λ e. cc)
 only ClearLine = (λ e. cc, λ e. cc)
 only ShowLine = (λ e. cc, λ e. cc)
+only TotalLine = (λ e. cc, λ e. cc)
 only NoShape = (λ e. cc, λ e. cc)
 
 -- no request has a code that is given before it is looked at
@@ -171,6 +172,7 @@ module _ (c : Condition) (line : List ℕ) (lent : ℕ) where
         clear = λ a. code-of c line lent ClearLine a;
         sixteen = (sixteen, λ (a, h). show-short a h);
         show = show-taken;
+        total = λ a. code-of c line lent TotalLine a;
       }
 
 pub codes-by-operation : CodesByOperation

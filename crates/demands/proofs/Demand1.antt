@@ -4,7 +4,7 @@ use mathlib.Core.List.{List, [], _∷_, _++_}
 use Prim.Native.Nat.{ℕ}
 use Rattle.whole.specs.Lists.{all, isOneOf}
 use Rattle.whole.proofs.Lists.{among}
-use Rattle.request.specs.declared.Kind.the-variants.{ClearLine}
+use Rattle.forms.specs.declared.Kind.the-variants.{ClearLine}
 use Rattle.condition.specs.declared.Condition.{Condition}
 use Rattle.condition.specs.Condition.{empty}
 use Rattle.panel.specs.Step.{Outcome, stepOf, Sent, conditionAfter, outcomes}

@@ -16,10 +16,10 @@ use Rattle.stability.specs.Verdict.{verdictOf}
 use Rattle.arms.specs.Judgeable.{Judgeable}
 use Rattle.columns.proofs.Standing.{around-at}
 use Rattle.stability.proofs.Demand3.{demand3, margins}
-use Rattle.request.specs.declared.Kind.the-variants.{JudgeLine}
+use Rattle.forms.specs.declared.Kind.the-variants.{JudgeLine}
 use Rattle.condition.specs.declared.Condition.{Condition}
 use Rattle.judging.specs.declared.Judged.the-variants.{Given}
-use Rattle.judging.specs.Judge.{weight, basisAt, judgedAt, judgedOf}
+use Rattle.judging.specs.Judge.{basisAt, judgedAt, judgedOf}
 use Rattle.panel.specs.Step.{Outcome, verdictGiven}
 use Rattle.reply.proofs.Shown.{verdict-shown}
 use Rattle.stability.proofs.Shown.{sizes}
@@ -50,12 +50,12 @@ module _ (c : Condition) (w : Within c) (m : Complete c) where
         apart = rw add-one at (s .apart);
         from = s .low;
         to = rw add-one at (s .high);
-        weight = m .weights;
+        weight = omega (arith, w .total, m .weights);
       }
 
   given : (i : ℕ) → columnsAround (c .load .d) (held (c .columns)) ≡ At i → judgedOf c ≡ Given (verdictOf (c .ship) (basisAt c i))
   given i e =
-      ready-judged c (within-sound c w) (m .ready) ∙ ap (judgedAt c) e ∙ rw (within-sound c w .holds, le-leb (weight c) 1000000000 (m .weights))
+      ready-judged c (within-sound c w) (m .ready) ∙ ap (judgedAt c) e ∙ rw (le-leb (c .total) 1000000000 (omega (arith, w .total, m .weights)))
 
 pub verdicts-hold : VerdictsHold
 verdicts-hold c line lent w m a =
@@ -74,7 +74,7 @@ verdicts-hold c line lent w m a =
       from = jd .from;
       to = jd .to;
       load = refl;
-      weight = refl;
+      weight = w .total;
       code = ap (λ (o : Outcome). o .code) o;
       shown = rw o
           (verdict-shown _ (verdictOf (c .ship) b .gm) (verdictOf (c .ship) b .diff) (verdictOf (c .ship) b .upper) (verdictOf (c .ship) b .area)

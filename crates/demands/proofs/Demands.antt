@@ -12,8 +12,9 @@ use Rattle.demands.proofs.Show.{shows-a-form, shows-the-form, shapes-ar
 use Rattle.demands.proofs.Spaces.{spaces-are-free}
 use Rattle.demands.proofs.Demand2.{weight-is-total}
 use Rattle.demands.proofs.Demand3.{verdicts-hold}
-use Rattle.demands.proofs.Reached.{reached-are-within, ranges-are-within}
-use Rattle.demands.proofs.Runs.{first-run, second-run, deck-run, show-run}
+use Rattle.demands.proofs.Reached.{steps-stay-within, reached-are-within, ranges-are-within}
+use Rattle.demands.proofs.Total.{stored-is-the-sum, total-stands-alone, totals-are-shown, sent-weigh-the-same}
+use Rattle.demands.proofs.Runs.{first-run, second-run, deck-run, show-run, total-run}
 
 pub demands : Demands
 demands =
@@ -34,11 +35,17 @@ demands =
       shapesAreFourDeep = shapes-are-four-deep;
       showRun = show-run;
       recordsCanBeSent = records-can-be-sent;
+      storedIsTheSum = stored-is-the-sum;
+      totalStandsAlone = total-stands-alone;
+      totalsAreShown = totals-are-shown;
+      totalRun = total-run;
+      sentWeighTheSame = sent-weigh-the-same;
       spacesAreFree = spaces-are-free;
       numbersAreRead = number-is;
       weightIsTotal = weight-is-total;
       verdictsHold = verdicts-hold;
       everyAngle = every-angle;
+      stepsStayWithin = steps-stay-within;
       reachedAreWithin = reached-are-within;
       rangesAreWithin = ranges-are-within;
     }

@@ -11,4 +11,5 @@ pub mod Reached
 pub mod Demand2
 pub mod Demand3
 pub mod Runs
+pub mod Total
 pub mod Demands

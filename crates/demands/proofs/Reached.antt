@@ -1,5 +1,5 @@
 -- Every condition that lines can reach is within its limits: it is so at the start, and a line that is taken puts in a record that passed
--- its tests, or takes one out.
+-- its tests, or takes one out, and keeps the figure true.
 use mathlib.Core.Path.{_≡_, refl, sym, ap, _∙_}
 use mathlib.Core.Bool.{Bool, true, false}
 use mathlib.Core.List.{List, [], _∷_}
@@ -9,6 +9,7 @@ use lib.Dec.{eqb}
 use lib.ListN.{length, getD, take, set, length-take, length-set, getD-replicate}
 use lib.Seq.{getD-set-same, getD-set-other, getD-take, take-suc, take-length, length-take-le}
 use borrow.Author.Tests.{eqb-true, eqb-false, ltb-true}
+use Rattle.whole.specs.Lists.{sumOf}
 use Rattle.whole.proofs.Lists.{getD-any}
 use Rattle.record.specs.declared.Column.{Column}
 use Rattle.record.specs.declared.Columns.{Columns}
@@ -19,26 +20,34 @@ use Rattle.record.specs.Filler.{noColumn, noPart, noHold}
 use Rattle.limits.specs.Ranges.{ColumnRange}
 use Rattle.limits.proofs.Ranges.{ship-range, load-range, column-range, hold-range, place-range}
 use Rattle.columns.proofs.Adding.{above-is, answer-above}
+use Rattle.grain.specs.Sum.{holdMoment, weightMoment, totalWeight}
+use Rattle.grain.proofs.Weights.{nothing-weighs}
 use Rattle.grain.proofs.Figures.{hold-fits}
 use Rattle.limits.specs.Limits.{shipLimits, loadLimits, placeLimits}
 use Rattle.record.specs.Held.{held}
 use Rattle.columns.specs.Columns.{isAbove, columnAnswer, withColumn}
 use Rattle.text.specs.Token.{Token, tokens}
-use Rattle.request.specs.declared.Kind.{Kind}
-use Rattle.request.specs.declared.Kind.the-variants.{ShipLine, ColumnLine, LoadLine, HoldLine, DropLine, JudgeLine, ClearLine, ShowLine, NoShape}
+use Rattle.forms.specs.declared.Kind.{Kind}
+use Rattle.forms.specs.declared.Kind.the-variants.{ShipLine, ColumnLine, LoadLine, HoldLine, DropLine, JudgeLine, ClearLine, ShowLine, TotalLine, NoShape}
 use Rattle.request.proofs.Lengths.{hold-places, cell-places, column-values}
 use Rattle.condition.specs.declared.Condition.{Condition}
 use Rattle.condition.specs.Condition.{empty, isHeld}
+use Rattle.total.specs.Total.{weight}
+use Rattle.total.proofs.Sound.{PlaceSound}
+use Rattle.total.proofs.Figure.{exchange-true}
 use Rattle.judging.specs.Judge.{judgedOf}
+use Rattle.judging.specs.Complete.{Places}
+use Rattle.storing.specs.Storing.{withHold}
 use Rattle.panel.specs.Step.{outcomeBy, stepOf, Sent, conditionAfter}
 use Rattle.sending.specs.Within.{Within, ColumnsTaken}
 use Rattle.demands.specs.Codes.{request}
-use Rattle.demands.specs.Demands.{ReachedAreWithin, RangesAreWithin}
+use Rattle.demands.specs.Demands.{StepsStayWithin, ReachedAreWithin, RangesAreWithin}
 use Rattle.storing.proofs.Taking.{place-within}
 use Rattle.demands.proofs.Asked.{taken-as}
 use Rattle.operations.proofs.Effects.{HoldPassed, ship-passed, ship-taken, load-passed, load-taken, column-passed, column-taken, hold-passed, hold-taken, drop-passed, drop-taken}
 use Rattle.storing.proofs.Columns.{Fitting, fitting-more, held-more, below-twenty}
 use Rattle.panel.proofs.Effects.{judge-same}
+use Rattle.demands.proofs.Within.{hold-sound}
 use Rattle.demands.proofs.Sequence.{taken-more}
 use Rattle.demands.proofs.Demand1.{refusals-change-nothing}
 
@@ -66,6 +75,7 @@ record Good (c : Condition) : Type 0 where
   load : c .loaded ≡ true → loadLimits (c .load) ≡ true
   columns : GoodColumns (c .columns)
   holds : GoodHolds (c .holds)
+  total : c .total ≡ weight c
 
 good-within : (c : Condition) → Good c → Within c
 good-within c g =
@@ -82,6 +92,7 @@ good-within c g =
       load = λ e. ap (λ ch. ch .code) (load-taken empty (c .load) (g .load e));
       columns = g .columns .taken;
       holds = λ n h e. ap (λ ch. ch .code) (hold-taken empty (n + 1) (getD (c .holds) n noHold) (g .holds .each n h .passed e));
+      total = g .total;
     }
 
 -- ---- nothing held
@@ -92,6 +103,10 @@ no-hold n =
       passed = λ e. let z : _≡_ {A = ℕ} 0 1 = cc in absurd (omega arith);
     }
 
+no-weight : weight empty ≡ 0
+unfolding totalWeight sumOf weightMoment holdMoment
+no-weight = refl
+
 good-empty : Good empty
 good-empty =
     record {
@@ -99,6 +114,7 @@ good-empty =
       load = λ e. let z : _≡_ {A = ℕ} 0 1 = cc in absurd (omega arith);
       columns = record { fitting = record { places = refl; count = omega arith }; ten = λ i h k. absurd (omega arith); taken = tt };
       holds = record { long = refl; each = λ n h. rw (getD-replicate 16 n noHold noHold h) (no-hold n) };
+      total = sym no-weight;
     }
 
 -- ---- one entry replaced: what it and each other one has
@@ -118,6 +134,14 @@ put-hold hs n h g p new =
       each = λ j q. set-each GoodHold hs (n - 1) h (omega (arith, g .long, w .0, w .1)) new noHold j (λ f. g .each j q);
     }
 
+-- the figure is true again
+put-figure : (c : Condition) (n : ℕ) (h : Hold) → Good c → placeLimits n ≡ true → PlaceSound h → withHold c n h (weightMoment h) .total ≡ weight (withHold c n h (weightMoment h))
+put-figure c n h g p s =
+    let w = place-within n p in
+    rw (g .total)
+    (exchange-true (c .holds) (g .holds .long) (λ i q e. let t = g .holds .each i q .passed e in record { limits = t .limits; fits = t .fits })
+    (n - 1) h (omega (arith, w .0, w .1)) s)
+
 put-column : (cs : Columns) (k : Column) → GoodColumns cs → length (k .kn) ≡ 10 → columnAnswer (held cs) k ≡ Taken → GoodColumns (withColumn cs k)
 put-column cs k g ten e =
     record {
@@ -133,27 +157,41 @@ module _ (c : Condition) (g : Good c) where
   good-by : (ts : List Token) (lent : ℕ) (k : Kind) (h : Hold) (col : Column) → SizedHold h → length (col .kn) ≡ 10 → outcomeBy c ts lent k h col .code ≡ 0 → Good (outcomeBy c ts lent k h col .after)
   good-by ts lent (ShipLine s) h col sh sc e =
       let p = ship-passed c s e in
-      rw (ship-taken c s p) (record { ship = λ t. p; load = g .load; columns = g .columns; holds = g .holds })
+      rw (ship-taken c s p) (record { ship = λ t. p; load = g .load; columns = g .columns; holds = g .holds; total = g .total })
   good-by ts lent ColumnLine h col sh sc e =
       let p = column-passed c col e in
       rw (column-taken c col p)
-      (record { ship = g .ship; load = g .load; columns = put-column (c .columns) col (g .columns) sc p; holds = g .holds })
+      (record { ship = g .ship; load = g .load; columns = put-column (c .columns) col (g .columns) sc p; holds = g .holds; total = g .total })
   good-by ts lent (LoadLine l) h col sh sc e =
       let p = load-passed c l e in
-      rw (load-taken c l p) (record { ship = g .ship; load = λ t. p; columns = g .columns; holds = g .holds })
+      rw (load-taken c l p) (record { ship = g .ship; load = λ t. p; columns = g .columns; holds = g .holds; total = g .total })
   good-by ts lent (HoldLine n) h col sh sc e =
       let p = hold-passed c n h e in
       let same : n - 1 + 1 ≡ n = omega (arith, place-within n (p .place) .0) in
       let new : GoodHold (n - 1) h = record { sized = sh; passed = λ t. rw same p } in
       rw (hold-taken c n h p)
-      (record { ship = g .ship; load = g .load; columns = g .columns; holds = put-hold (c .holds) n h (g .holds) (p .place) new })
+      (record {
+        ship = g .ship;
+        load = g .load;
+        columns = g .columns;
+        holds = put-hold (c .holds) n h (g .holds) (p .place) new;
+        total = put-figure c n h g (p .place) (λ t. record { limits = p .limits; fits = p .fits });
+      })
   good-by ts lent (DropLine n) h col sh sc e =
       let p = drop-passed c n e in
+      let figure = put-figure c n noHold g (p .0) (λ t. let z : _≡_ {A = ℕ} 0 1 = cc in absurd (omega arith)) in
       rw (drop-taken c n (p .0) (p .1))
-      (record { ship = g .ship; load = g .load; columns = g .columns; holds = put-hold (c .holds) n noHold (g .holds) (p .0) (no-hold (n - 1)) })
+      (record {
+        ship = g .ship;
+        load = g .load;
+        columns = g .columns;
+        holds = put-hold (c .holds) n noHold (g .holds) (p .0) (no-hold (n - 1));
+        total = rw (nothing-weighs noHold refl) at figure;
+      })
   good-by ts lent JudgeLine h col sh sc e = rw (judge-same c (judgedOf c)) g
   good-by ts lent ClearLine h col sh sc e = good-empty
   good-by ts lent ShowLine h col sh sc e = g
+  good-by ts lent TotalLine h col sh sc e = g
   good-by ts lent NoShape h col sh sc e = absurd (omega arith)
 
   -- any line
@@ -179,7 +217,43 @@ good-after c (l ∷ ls) g = good-after (stepOf c (l .line) (l .lent) .after) ls 
 pub reached-are-within : ReachedAreWithin
 reached-are-within ls = good-within (conditionAfter empty ls) (good-after empty ls good-empty)
 
--- ---- a condition whose records are in the paper's ranges
+-- ---- a condition of which each record passed its tests, in places of the right number
+places-good :
+    (c : Condition) → Places c → (c .shipped ≡ true → shipLimits (c .ship) ≡ true) → (c .loaded ≡ true → loadLimits (c .load) ≡ true) →
+    ColumnsTaken empty (held (c .columns)) → ((n : ℕ) → n < 16 → isHeld (getD (c .holds) n noHold) ≡ true → HoldPassed (n + 1) (getD (c .holds) n noHold)) →
+    c .total ≡ weight c → Good c
+places-good c p ship load columns passed total =
+    record {
+      ship = ship;
+      load = load;
+      columns = record {
+        fitting = record { places = p .columnPlaces; count = p .columnCount };
+        ten = λ i h k.
+            ap (λ (x : Column). length (x .kn)) (getD-any (c .columns .places) i k noColumn (omega (arith, p .columnPlaces, p .columnCount))) ∙ p .knPlaces i h;
+        taken = columns;
+      };
+      holds = record {
+        long = p .holdPlaces;
+        each = λ m h.
+            let x = getD (c .holds) m noHold in
+            record {
+              sized = record {
+                parts = p .partPlaces m h;
+                cells = λ i q d. ap (λ (y : Part). length (y .cells)) (getD-any (x .parts) i d noPart (omega (arith, p .partPlaces m h))) ∙ p .cellPlaces m h i q;
+              };
+              passed = passed m h;
+            };
+      };
+      total = total;
+    }
+
+-- one within its limits
+pub steps-stay-within : StepsStayWithin
+steps-stay-within c line lent w =
+    let g = places-good c (w .places) (λ e. ship-passed empty (c .ship) (w .ship e)) (λ e. load-passed empty (c .load) (w .load e)) (w .columns) (hold-sound c w) (w .total) in
+    good-within (stepOf c line lent .after) (good-step c g line lent)
+
+-- one whose records are in the paper's ranges
 module _ (ks : List Column) (few : length ks ≤ 20) (ranges : (i : ℕ) → i < length ks → ColumnRange (getD ks i noColumn)) (rising : (i : ℕ) → i + 1 < length ks → getD ks i noColumn .d < getD ks (i + 1) noColumn .d) where
   above-before : (n : ℕ) → n < length ks → isAbove (getD ks n noColumn .d) (take n ks) ≡ true
   above-before n h =
@@ -203,27 +277,10 @@ ranges-are-within c p r =
     let ks = held (c .columns) in
     let n = length-take (c .columns .count) (c .columns .places) in
     good-within c
-    (record {
-      ship = λ e. ship-range (c .ship) .1 (r .ship e);
-      load = λ e. load-range (c .load) .1 (r .load e);
-      columns = record {
-        fitting = record { places = p .columnPlaces; count = p .columnCount };
-        ten = λ i h k.
-            ap (λ (x : Column). length (x .kn)) (getD-any (c .columns .places) i k noColumn (omega (arith, p .columnPlaces, p .columnCount))) ∙ p .knPlaces i h;
-        taken = rw (take-length ks) at (taken-up-to ks (omega (arith, p .columnCount)) (r .columns) (r .rising) (length ks) (omega arith));
-      };
-      holds = record {
-        long = p .holdPlaces;
-        each = λ m h.
-            let x = getD (c .holds) m noHold in
-            record {
-              sized = record {
-                parts = p .partPlaces m h;
-                cells = λ i q d. ap (λ (y : Part). length (y .cells)) (getD-any (x .parts) i d noPart (omega (arith, p .partPlaces m h))) ∙ p .cellPlaces m h i q;
-              };
-              passed = λ e.
-                  let t = r .holds m h (ltb-true 0 (x .head .count) e) in
-                  record { place = place-range (m + 1) .1 (omega arith, omega arith); limits = hold-range x .1 (t .0); fits = hold-fits x .1 (t .1) };
-            };
-      };
-    })
+    (places-good c p (λ e. ship-range (c .ship) .1 (r .ship e)) (λ e. load-range (c .load) .1 (r .load e))
+    (rw (take-length ks) at (taken-up-to ks (omega (arith, p .columnCount)) (r .columns) (r .rising) (length ks) (omega arith)))
+    (λ m h e.
+    let x = getD (c .holds) m noHold in
+    let t = r .holds m h (ltb-true 0 (x .head .count) e) in
+    record { place = place-range (m + 1) .1 (omega arith, omega arith); limits = hold-range x .1 (t .0); fits = hold-fits x .1 (t .1) })
+    (r .total))

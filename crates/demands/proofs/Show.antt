@@ -14,7 +14,7 @@ use Rattle.line_codes.proofs.Alike.{sound-passes}
 use Rattle.spelling.specs.Spelling.{spell}
 use Rattle.spelling.proofs.Own.{own-spelling}
 use Rattle.spelling.proofs.Spelled.{spelled-so, spell-allowed}
-use Rattle.request.specs.declared.Kind.the-variants.{ShowLine}
+use Rattle.forms.specs.declared.Kind.the-variants.{ShowLine}
 use Rattle.showing.specs.Laws.{OfDocument01, ShowOf}
 use Rattle.showing.proofs.Forms.{asked-form, show-found, show-taken}
 use Rattle.showing.proofs.Laws.{inside-is-the-form, show-is-short, shape-deep, line-sound, form-proper, form-kept, form-numbers}

@@ -15,8 +15,8 @@ use Rattle.line_codes.specs.declared.Reading.{Reading}
 use Rattle.line_codes.specs.declared.Reading.the-variants.{Sound, TooLong, BadByte, NotOneForm, BadNumber}
 use Rattle.text.specs.Token.{tokens}
 use Rattle.line_codes.specs.Line.{readingOf}
-use Rattle.request.specs.declared.Kind.{Kind}
-use Rattle.request.specs.declared.Kind.the-variants.{ShipLine, ColumnLine, LoadLine, HoldLine, DropLine, JudgeLine, ClearLine, ShowLine, NoShape}
+use Rattle.forms.specs.declared.Kind.{Kind}
+use Rattle.forms.specs.declared.Kind.the-variants.{ShipLine, ColumnLine, LoadLine, HoldLine, DropLine, JudgeLine, ClearLine, ShowLine, TotalLine, NoShape}
 use Rattle.reply.specs.Replies.{answerReply}
 use Rattle.reply.specs.Shown.{RefusalShown}
 use Rattle.reply.proofs.Shown.{answer-shown, refusal-shown}
@@ -56,10 +56,11 @@ module _ (c : Condition) (line : List ℕ) (lent : ℕ) where
           judge = λ e. after JudgeLine e ∙ judge-same c (judgedOf c);
           clear = λ e. rw (after ClearLine e) starts-empty;
           show = λ e. after ShowLine e;
+          total = λ e. after TotalLine e;
         }
 
-  -- ---- the reply of every line but judge and a show with room for its reply
-  module _ (room : 96 ≤ lent) (other : Asks line lent JudgeLine → ⊥) (unshown : Asks line lent ShowLine → 2100 ≤ lent → ⊥) where
+  -- ---- the reply of every line but judge, a show with room for its reply, and total
+  module _ (room : 96 ≤ lent) (other : Asks line lent JudgeLine → ⊥) (unshown : Asks line lent ShowLine → 2100 ≤ lent → ⊥) (uncounted : Asks line lent TotalLine → ⊥) where
     abbrev Answered : Outcome → Type 0
     Answered o = o .reply ≡ answerReply (o .code)
 
@@ -76,6 +77,7 @@ module _ (c : Condition) (line : List ℕ) (lent : ℕ) where
         by : Dec (2100 ≤ lent) → Answered (formShown c (tokens line) lent)
         by (yes h) = absurd (unshown (record { room = room; sound = none-applies line s; asked = e }) h)
         by (no h) = rw (lt-ltb lent 2100 (lt-of-not-le h))
+    answered-kind s TotalLine e = absurd (uncounted (record { room = room; sound = none-applies line s; asked = e }))
     answered-kind s NoShape e = refl
 
     answered-by : (r : Reading) → readingOf line ≡ r → Answered (stepOf c line lent)
@@ -110,5 +112,5 @@ replies-show-the-code c line lent =
     record {
       short = λ h. rw (short c line lent h);
       judge = λ a. rw (asked c line lent JudgeLine a) (judge-shows c);
-      other = λ room other unshown. rw (answered-by c line lent room other unshown (readingOf line) refl) (answer-shown (stepOf c line lent .code));
+      other = λ room other unshown uncounted. rw (answered-by c line lent room other unshown uncounted (readingOf line) refl) (answer-shown (stepOf c line lent .code));
     }

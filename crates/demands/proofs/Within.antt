@@ -9,7 +9,7 @@ use Rattle.record.specs.Filler.{noHold}
 use Rattle.columns.specs.Columns.{inOrder}
 use Rattle.condition.specs.declared.Condition.{Condition}
 use Rattle.condition.specs.Condition.{empty, isHeld}
-use Rattle.judging.proofs.Judging.{holds-sound, LimitsMet}
+use Rattle.judging.proofs.Judging.{LimitsMet}
 use Rattle.operations.proofs.Effects.{HoldPassed, ship-passed, load-passed, hold-passed}
 use Rattle.sending.specs.Within.{Within}
 use Rattle.demands.proofs.Sequence.{taken-order}
@@ -25,6 +25,5 @@ module _ (c : Condition) (w : Within c) where
         ship = λ e. ship-passed empty (c .ship) (w .ship e);
         load = λ e. load-passed empty (c .load) (w .load e);
         columns = taken-order empty (held (c .columns)) (record { places = refl; count = omega arith }) refl (w .columns);
-        holds = holds-sound (c .holds)
-            (λ i p e. let t = hold-sound i (omega (arith, w .places .holdPlaces)) e in record { limits = t .limits; fits = t .fits });
+        total = w .total;
       }

@@ -11,9 +11,9 @@ use Rattle.record.specs.Held.{held}
 use Rattle.limits.specs.Ranges.{ShipRange, LoadRange}
 use Rattle.text.specs.Token.{tokens}
 use Rattle.line_codes.specs.Codes.{OtherByte, AllAllowed, Nested, NoNumber}
-use Rattle.request.specs.declared.Kind.{Kind}
-use Rattle.request.specs.declared.Kind.the-variants.{ShipLine, ColumnLine, LoadLine, HoldLine, DropLine, JudgeLine, ClearLine, ShowLine, NoShape}
-use Rattle.request.specs.declared.Request.{Request}
+use Rattle.forms.specs.declared.Kind.{Kind}
+use Rattle.forms.specs.declared.Kind.the-variants.{ShipLine, ColumnLine, LoadLine, HoldLine, DropLine, JudgeLine, ClearLine, ShowLine, TotalLine, NoShape}
+use Rattle.forms.specs.declared.Request.{Request}
 use Rattle.request.specs.Shape.{requestOf}
 use Rattle.condition.specs.declared.Condition.{Condition}
 use Rattle.judging.specs.Codes.{JudgeCodes}
@@ -58,3 +58,5 @@ pub record ByOperation (c : Condition) (line : List ℕ) (lent code : ℕ) : Typ
   -- document 02, P2: 16 where fewer than 2,100 bytes are lent for a show line, tested after 14
   pub sixteen : (code ≡ 16) ↔ (Asks line lent ShowLine × (lent < 2100))
   pub show : Asks line lent ShowLine → 2100 ≤ lent → code ≡ 0
+  -- document 02, P4
+  pub total : Asks line lent TotalLine → code ≡ 0

@@ -1,8 +1,8 @@
--- The three demands (document 00), and show (document 02, P2), of the step of one line and of its repetition over any list of lines. Proved in
+-- The three demands (document 00), and show and total (document 02, P2 and P4), of the step of one line and of its repetition over any list of lines. Proved in
 -- proofs/Demands.antt. What each layer says by itself stands there: line_codes/specs/Codes.antt, limits/specs/Ranges.antt,
 -- cells/specs/Figures.antt, slack/specs/Exact.antt, grain/specs/Figures.antt, stability/specs/Demand.antt, reply/specs/Shown.antt,
 -- judging/specs/Codes.antt, operations/specs/Codes.antt, storing/specs/Stores.antt, spelling/specs/SoSpelled.antt, sending/specs/Laws.antt;
--- the codes of a line in Codes.antt, show in Show.antt, the worked runs in Runs.antt.
+-- the codes of a line in Codes.antt, show in Show.antt, total in Total.antt, the worked runs in Runs.antt.
 use mathlib.Core.Path.{_≡_}
 use mathlib.Core.Bool.{true}
 use mathlib.Core.List.{List, [], _∷_, _++_}
@@ -23,13 +23,13 @@ use Rattle.stability.specs.Margins.{Margins}
 use Rattle.text.specs.declared.Number.the-variants.{Is}
 use Rattle.text.specs.Token.{numberOf}
 use Rattle.line_codes.specs.Codes.{LetterOrDigit, NumberIs}
-use Rattle.request.specs.declared.Kind.the-variants.{ShipLine, ColumnLine, LoadLine, HoldLine, DropLine, JudgeLine, ClearLine, ShowLine}
+use Rattle.forms.specs.declared.Kind.the-variants.{ShipLine, ColumnLine, LoadLine, HoldLine, DropLine, JudgeLine, ClearLine, ShowLine, TotalLine}
 use Rattle.reply.specs.Written.{over}
 use Rattle.reply.specs.Shown.{AtFront, AnswerShown, RefusalShown, VerdictShown}
 use Rattle.condition.specs.declared.Condition.{Condition}
 use Rattle.condition.specs.Condition.{empty}
 use Rattle.condition.specs.Empty.{Nothing}
-use Rattle.judging.specs.Judge.{weight}
+use Rattle.total.specs.Total.{weight}
 use Rattle.panel.specs.Step.{Outcome, stepOf, Sent, conditionAfter, outcomes}
 use Rattle.judging.specs.Complete.{Places, InRanges, Complete}
 use Rattle.storing.specs.Stores.{ShipStored, LoadStored, ColumnStored, HoldStored, HoldDropped}
@@ -37,7 +37,8 @@ use Rattle.sending.specs.Within.{Within}
 use Rattle.sending.specs.Laws.{RecordsCanBeSent}
 use Rattle.demands.specs.Codes.{request, Asks, ByOperation}
 use Rattle.demands.specs.Show.{ShowsAForm, ShowsTheForm, ShapesAreFourDeep}
-use Rattle.demands.specs.Runs.{FirstRun, SecondRun, DeckRun, ShowRun}
+use Rattle.demands.specs.Total.{StoredIsTheSum, TotalStandsAlone, TotalsAreShown, SentWeighTheSame}
+use Rattle.demands.specs.Runs.{FirstRun, SecondRun, DeckRun, ShowRun, TotalRun}
 
 -- ---- Demand 1
 
@@ -69,18 +70,21 @@ pub record Stores (c : Condition) (line : List ℕ) (after : Condition) : Type 0
   pub judge : request line .kind ≡ JudgeLine → after ≡ c
   pub clear : request line .kind ≡ ClearLine → Nothing after
   pub show : request line .kind ≡ ShowLine → after ≡ c
+  pub total : request line .kind ≡ TotalLine → after ≡ c
 
 abbrev pub RecordsAreStored : Type 0
 RecordsAreStored =
     (c : Condition) (line : List ℕ) (lent : ℕ) → stepOf c line lent .code ≡ 0 → Stores c line (stepOf c line lent .after)
 
--- the reply shows the code: none under 96 bytes; `(answer CC)` for every line but judge and a show with room for its reply; `(verdict CC)`
--- for judge with 30 to 34. What judge shows with 00 and 40 to 43 is demand 3; what show shows with 00 stands in Show.antt
+-- the reply shows the code: none under 96 bytes; `(answer CC)` for every line but judge, a show with room for its reply, and total;
+-- `(verdict CC)` for judge with 30 to 34. What judge shows with 00 and 40 to 43 is demand 3; what show and total show with 00 stands in
+-- Show.antt and Total.antt
 pub record Shows (line : List ℕ) (lent : ℕ) (o : Outcome) : Type 0 where
   pub short : lent < 96 → o .reply ≡ []
   pub judge : Asks line lent JudgeLine → isOneOf (30 ∷ 31 ∷ 32 ∷ 33 ∷ 34 ∷ []) (o .code) ≡ true → RefusalShown (o .code) (o .reply)
   pub other :
-      96 ≤ lent → (Asks line lent JudgeLine → ⊥) → (Asks line lent ShowLine → 2100 ≤ lent → ⊥) → AnswerShown (o .code) (o .reply)
+      96 ≤ lent → (Asks line lent JudgeLine → ⊥) → (Asks line lent ShowLine → 2100 ≤ lent → ⊥) → (Asks line lent TotalLine → ⊥) →
+      AnswerShown (o .code) (o .reply)
 
 abbrev pub RepliesShowTheCode : Type 0
 RepliesShowTheCode = (c : Condition) (line : List ℕ) (lent : ℕ) → Shows line lent (stepOf c line lent)
@@ -156,7 +160,10 @@ abbrev pub VerdictsHold : Type 0
 VerdictsHold =
     (c : Condition) (line : List ℕ) (lent : ℕ) → Within c → Complete c → Asks line lent JudgeLine → Judges c (stepOf c line lent)
 
--- every condition that lines can reach is within its limits
+-- every line leaves a condition that is within its limits so, and every condition that lines can reach is
+abbrev pub StepsStayWithin : Type 0
+StepsStayWithin = (c : Condition) (line : List ℕ) (lent : ℕ) → Within c → Within (stepOf c line lent .after)
+
 abbrev pub ReachedAreWithin : Type 0
 ReachedAreWithin = (ls : List Sent) → Within (conditionAfter empty ls)
 
@@ -183,11 +190,17 @@ pub record Demands : Type 0 where
   pub showRun : ShowRun
   -- the records of a condition within its limits can be sent to an empty panel as lines in the one spelling (sending/specs/Laws.antt)
   pub recordsCanBeSent : RecordsCanBeSent
+  pub storedIsTheSum : StoredIsTheSum
+  pub totalStandsAlone : TotalStandsAlone
+  pub totalsAreShown : TotalsAreShown
+  pub totalRun : TotalRun
+  pub sentWeighTheSame : SentWeighTheSame
   pub spacesAreFree : SpacesAreFree
   pub numbersAreRead : NumbersAreRead
   pub weightIsTotal : WeightIsTotal
   pub verdictsHold : VerdictsHold
   -- what is said of each stretch is said of each angle (arms/specs/Exact.antt)
   pub everyAngle : EveryAngle
+  pub stepsStayWithin : StepsStayWithin
   pub reachedAreWithin : ReachedAreWithin
   pub rangesAreWithin : RangesAreWithin

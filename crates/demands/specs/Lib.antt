@@ -1,4 +1,5 @@
 pub mod Codes
 pub mod Show
+pub mod Total
 pub mod Runs
 pub mod Demands

@@ -5,7 +5,8 @@
 -- wings, hatches and void cells; a wing whose depth lies between two tenths and its area between two whole mm², 946.12 and 6,983,902.2;
 -- one whose two terms have hundredths, 447.34 + 189.75, so that each rounded by itself gives another tenth; one at the least depth; an
 -- excess that moves past a cell with room, a void that does not fit; FLOOD inside a step; each of 40 to 43 once, and a DIFF below zero
--- beyond UPPER with 00. The third is of partly filled parts of each shape, the fourth of show lines.
+-- beyond UPPER with 00. The third is of partly filled parts of each shape, the fourth of show lines, the fifth
+-- of totals.
 use mathlib.Core.Path.{_≡_}
 use mathlib.Core.List.{List, [], _∷_, map}
 use Prim.Native.String.{String}
@@ -202,3 +203,69 @@ ShowRun =
     ∷ "(verdict 30)\n"
     ∷ []))
     × (replies 2099 ("(show (judge))" ∷ "(show)" ∷ []) ≡ map bytes ("(answer 16)\n" ∷ "(answer 14)\n" ∷ []))
+
+-- totals: of nothing; of one hold, and two; of one replaced, refused with 21 and with 20, shown, dropped, and not there; above the limit of 34; with
+-- items, and in a show; after a clear
+abbrev pub totals : List String
+totals =
+    "(total)"
+    ∷ "(hold 1 trimmed 12500 (part 10000 (void 10000 500 5000)))"
+    ∷ "(total)"
+    ∷ "(hold 2 partial 12500 (part 10000 12000 3000 6000))"
+    ∷ "( total )"
+    ∷ "(hold 2 partial 12500 (part 10000 12000 600 6000))"
+    ∷ "(total)"
+    ∷ "(hold 2 voided 9973 (part 611 (void 5110 1000 1399) (void 3001 7 11)))"
+    ∷ "(hold 17 partial 12500 (part 10000 12000 600 6000))"
+    ∷ "(show (hold 2 partial 12500 (part 10000 12000 3000 6000)))"
+    ∷ "(total)"
+    ∷ "(drop 2)"
+    ∷ "(total)"
+    ∷ "(drop 2)"
+    ∷ "(total)"
+    ∷ "(ship new 1430 3500)"
+    ∷ "(column 20000 9000 (0 870 1740 2080 2600 3450 4300 5100 5850 6500))"
+    ∷ "(column 30000 9000 (0 870 1740 2080 2600 3450 4300 5100 5850 6500))"
+    ∷ "(load 25000 8000 100)"
+    ∷ "(hold 16 partial 5000 (part 60000 40000 9322 30000) (part 60000 40000 9322 30000) (part 60000 40000 9322 30000) (part 60000 40000 9322 30000) (part 60000 40000 9322 30000) (part 60000 40000 9322 30000))"
+    ∷ "(judge)"
+    ∷ "(total)"
+    ∷ "(total 1)"
+    ∷ "(total ())"
+    ∷ "(show (total))"
+    ∷ "(clear)"
+    ∷ "(total)"
+    ∷ []
+
+abbrev pub TotalRun : Type 0
+TotalRun =
+    replies 2100 totals
+    ≡ map bytes
+    ("(answer 00 0)\n"
+    ∷ "(answer 00)\n"
+    ∷ "(answer 00 118548)\n"
+    ∷ "(answer 00)\n"
+    ∷ "(answer 00 720201)\n"
+    ∷ "(answer 00)\n"
+    ∷ "(answer 00 386123)\n"
+    ∷ "(answer 21)\n"
+    ∷ "(answer 20)\n"
+    ∷ "(hold 2 partial 12500 (part 10000 12000 3000 6000))\n"
+    ∷ "(answer 00 386123)\n"
+    ∷ "(answer 00)\n"
+    ∷ "(answer 00 118548)\n"
+    ∷ "(answer 24)\n"
+    ∷ "(answer 00 118548)\n"
+    ∷ "(answer 00)\n"
+    ∷ "(answer 00)\n"
+    ∷ "(answer 00)\n"
+    ∷ "(answer 00)\n"
+    ∷ "(answer 00)\n"
+    ∷ "(verdict 34)\n"
+    ∷ "(answer 00 2005723730)\n"
+    ∷ "(answer 14)\n"
+    ∷ "(answer 14)\n"
+    ∷ "(answer 14)\n"
+    ∷ "(answer 00)\n"
+    ∷ "(answer 00 0)\n"
+    ∷ [])

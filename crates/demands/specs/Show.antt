@@ -7,8 +7,8 @@ use lib.ListN.{length, replicate}
 use Rattle.text.specs.Token.{tokens}
 use Rattle.line_codes.specs.Codes.{OneForm, BeginsWithShow}
 use Rattle.spelling.specs.SoSpelled.{SoSpelled}
-use Rattle.request.specs.declared.Kind.{Kind}
-use Rattle.request.specs.declared.Kind.the-variants.{ShowLine, NoShape}
+use Rattle.forms.specs.declared.Kind.{Kind}
+use Rattle.forms.specs.declared.Kind.the-variants.{ShowLine, NoShape}
 use Rattle.showing.specs.Laws.{OfDocument01}
 use Rattle.condition.specs.declared.Condition.{Condition}
 use Rattle.panel.specs.Step.{Outcome, stepOf}

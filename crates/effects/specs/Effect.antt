@@ -1,5 +1,6 @@
 -- The effect that the program takes last. The laws of `panel` lead from this to its `stepOf`; no reader has to believe it.
 use mathlib.Core.Bool.{cond}
+use Prim.Native.Nat.{ℕ}
 use lib.Dec.{leb}
 use lib.ListN.{length}
 use Rattle.record.specs.declared.Column.{Column}
@@ -8,25 +9,26 @@ use Rattle.record.specs.Held.{held}
 use Rattle.record.specs.Filler.{noHold}
 use Rattle.limits.specs.Limits.{placeLimits}
 use Rattle.columns.specs.Columns.{withColumn}
-use Rattle.request.specs.declared.Kind.{Kind}
-use Rattle.request.specs.declared.Kind.the-variants.{ShipLine, ColumnLine, LoadLine, HoldLine, DropLine, JudgeLine, ClearLine, ShowLine, NoShape}
-use Rattle.request.specs.declared.Request.{Request}
+use Rattle.forms.specs.declared.Kind.{Kind}
+use Rattle.forms.specs.declared.Kind.the-variants.{ShipLine, ColumnLine, LoadLine, HoldLine, DropLine, JudgeLine, ClearLine, ShowLine, TotalLine, NoShape}
+use Rattle.forms.specs.declared.Request.{Request}
 use Rattle.condition.specs.declared.Condition.{Condition}
 use Rattle.condition.specs.Condition.{empty}
 use Rattle.storing.specs.Storing.{withShip, withLoad, withColumns, withHold}
 
--- what a request puts into the condition. It is taken only where the request is answered with 00; elsewhere its value is free,
+-- what a request puts into the condition, w being the moment of its hold. It is taken only where the request is answered with 00; elsewhere its value is free,
 -- and these are the simplest
-abbrev pub effectBy : Condition → Kind → Hold → Column → Condition
-effectBy c (ShipLine s) h k = withShip c s
-effectBy c ColumnLine h k = cond (leb 20 (length (held (c .columns)))) c (withColumns c (withColumn (c .columns) k))
-effectBy c (LoadLine l) h k = withLoad c l
-effectBy c (HoldLine n) h k = cond (placeLimits n) (withHold c n h) c
-effectBy c (DropLine n) h k = cond (placeLimits n) (withHold c n noHold) c
-effectBy c JudgeLine h k = c
-effectBy c ClearLine h k = empty
-effectBy c ShowLine h k = c
-effectBy c NoShape h k = c
+abbrev pub effectBy : Condition → Kind → Hold → Column → (w : ℕ) → Condition
+effectBy c (ShipLine s) h k w = withShip c s
+effectBy c ColumnLine h k w = cond (leb 20 (length (held (c .columns)))) c (withColumns c (withColumn (c .columns) k))
+effectBy c (LoadLine l) h k w = withLoad c l
+effectBy c (HoldLine n) h k w = cond (placeLimits n) (withHold c n h w) c
+effectBy c (DropLine n) h k w = cond (placeLimits n) (withHold c n noHold 0) c
+effectBy c JudgeLine h k w = c
+effectBy c ClearLine h k w = empty
+effectBy c ShowLine h k w = c
+effectBy c TotalLine h k w = c
+effectBy c NoShape h k w = c
 
-unfoldable pub effectOf : Condition → Request → Condition
-effectOf c r = effectBy c (r .kind) (r .hold) (r .column)
+unfoldable pub effectOf : Condition → Request → (w : ℕ) → Condition
+effectOf c r w = effectBy c (r .kind) (r .hold) (r .column) w

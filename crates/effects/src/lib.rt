@@ -1,14 +1,14 @@
 // The effect of a request: what it puts into the condition.
 use condition::Condition;
-use request::Kind;
-use request::Request;
+use forms::Kind;
+use forms::Request;
 ghost use mathlib.Core.Path.{_≡_};
 ghost use Rattle.effects.specs.Effect.{effectOf};
 
-// What a request that was answered with 00 puts into the condition. The condition is large, and is copied wherever a function gives it: a
+// What a request that was answered with 00 puts into the condition, with the moment that a hold's answer found. The condition is large, and is copied wherever a function gives it: a
 // line that is turned down never comes here.
-pub fn effect(c: Condition, r: Request) -> Condition
-    ensures { λ a. ⌜ a ≡ effectOf c r ⌝ }
+pub fn effect(c: Condition, r: Request, moment: u64) -> Condition
+    ensures { λ a. ⌜ a ≡ effectOf c r moment ⌝ }
 {
     let kind = r.kind;
     let h = r.hold;
@@ -17,11 +17,12 @@ pub fn effect(c: Condition, r: Request) -> Condition
         Kind::ShipLine(s) => storing::with_ship(c, s),
         Kind::ColumnLine => storing::with_column(c, k),
         Kind::LoadLine(l) => storing::with_load(c, l),
-        Kind::HoldLine(n) => storing::with_hold(c, n, h),
-        Kind::DropLine(n) => storing::with_hold(c, n, record::no_hold()),
+        Kind::HoldLine(n) => storing::with_hold(c, n, h, moment),
+        Kind::DropLine(n) => storing::with_hold(c, n, record::no_hold(), 0),
         Kind::JudgeLine => c,
         Kind::ClearLine => condition::empty_condition(),
         Kind::ShowLine => c,
+        Kind::TotalLine => c,
         Kind::NoShape => c,
     }
 }

@@ -8,7 +8,7 @@ use native.Mathlib.Nat.{mul-le-mul, mul-le-mul-left, zero-mul}
 use lib.ListN.{length, length-take}
 use Rattle.whole.specs.Lists.{within, all, sumOf}
 use Rattle.whole.proofs.Lists.{Within, and-true, within-true}
-use Rattle.whole.proofs.Dividing.{ceil-zero}
+use Rattle.whole.proofs.Dividing.{ceil-zero, ceil-le}
 use Rattle.record.specs.declared.Mode.{Mode}
 use Rattle.record.specs.declared.Mode.the-variants.{Trimmed, Voided, Partial}
 use Rattle.record.specs.declared.Cell.{Cell}
@@ -21,7 +21,7 @@ use Rattle.slack.proofs.Rows.{deck-le}
 use Rattle.grain.specs.declared.Shifted.the-variants.{Moment, NoFit}
 use Rattle.grain.specs.Section.{Kept, keptFrom, keptOf, highMoment, sectionMoment}
 use Rattle.grain.specs.Slack.{slackMoment}
-use Rattle.grain.specs.Sum.{partSection, partMoment, holdMoment, weightMoment}
+use Rattle.grain.specs.Sum.{partSection, partMoment, percentage, holdMoment, weightMoment}
 use Rattle.grain.proofs.Sections.{areas-le, kept-sum}
 use Rattle.grain.proofs.Walks.{part-within}
 
@@ -96,6 +96,25 @@ moments-le mode (p ∷ ps) e =
 pub parts-le : (h : Hold) → HoldWithin h → sumOf (partMoment (h .head .mode)) (partsOf h) ≤ 2 ^ 33
 parts-le h w =
     omega (arith, moments-le (h .head .mode) (partsOf h) (w .parts), length-take (h .head .count) (h .parts), w .count)
+
+percentage-le : (mode : Mode) → percentage mode ≤ 112
+percentage-le Trimmed = omega arith
+percentage-le Voided = omega arith
+percentage-le Partial = omega arith
+
+hold-le : (h : Hold) → HoldWithin h → holdMoment h ≤ 2 ^ 34
+unfolding holdMoment
+hold-le h w =
+    ceil-le (sumOf (partMoment (h .head .mode)) (partsOf h) * percentage (h .head .mode)) 100 (2 ^ 34) (omega arith)
+    (omega (arith, mul-le-mul (parts-le h w) (percentage-le (h .head .mode))))
+
+-- its weight moment is within 2 to the 35th kg·m
+pub weight-le : (h : Hold) → holdLimits h ≡ true → weightMoment h ≤ 2 ^ 35
+unfolding weightMoment
+weight-le h e =
+    let w = hold-within h e in
+    ceil-le (10000 * holdMoment h) (h .head .factor) (2 ^ 35) (omega (arith, w .factor .low))
+    (omega (arith, hold-le h w, mul-le-mul-left (2 ^ 35) (w .factor .low)))
 
 -- ---- an answer taken apart
 pub moment-of : (b : Bool) (x m : ℕ) → Moment m ≡ cond b (Moment x) NoFit → (b ≡ true) × (m ≡ x)

@@ -63,6 +63,12 @@ weighedCode (Weight w) = 0
 weighedCode Limits = 20
 weighedCode NoFit = 21
 
+-- the weight moment that an answer gives: 0 where a hold is outside its limits, as one without parts is, or does not fit
+abbrev pub weighedMoment : Weighed → ℕ
+weighedMoment (Weight w) = w
+weighedMoment Limits = 0
+weighedMoment NoFit = 0
+
 -- the weight moments of all holds together; a place that holds no parts counts 0 (`nothing-weighs`: 0 over any SF is 0, over the
 -- filler's 0 too)
 unfoldable pub totalWeight : List Hold → ℕ

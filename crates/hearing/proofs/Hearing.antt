@@ -6,8 +6,8 @@ use native.Mathlib.Omega.{arith}
 use Rattle.line_codes.specs.declared.Reading.{Reading}
 use Rattle.line_codes.specs.declared.Reading.the-variants.{Sound, TooLong, BadByte, NotOneForm, BadNumber}
 use Rattle.line_codes.specs.Line.{readingCode}
-use Rattle.request.specs.declared.Kind.the-variants.{NoShape}
-use Rattle.request.specs.Shape.{plain}
+use Rattle.forms.specs.declared.Kind.the-variants.{NoShape}
+use Rattle.forms.specs.Shape.{plain}
 use Rattle.hearing.specs.Hearing.{heardBy}
 
 -- a line that passes the tests of the whole line: none of 10 to 13 applies

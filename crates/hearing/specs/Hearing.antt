@@ -5,9 +5,10 @@ use Rattle.text.specs.Token.{tokens}
 use Rattle.line_codes.specs.declared.Reading.{Reading}
 use Rattle.line_codes.specs.declared.Reading.the-variants.{Sound, TooLong, BadByte, NotOneForm, BadNumber}
 use Rattle.line_codes.specs.Line.{readingOf, readingCode}
-use Rattle.request.specs.declared.Kind.the-variants.{NoShape}
-use Rattle.request.specs.Shape.{plain, requestOf}
-use Rattle.request.specs.Carried.{carriedRequest}
+use Rattle.forms.specs.declared.Kind.the-variants.{NoShape}
+use Rattle.forms.specs.Shape.{plain}
+use Rattle.forms.specs.Carried.{carriedRequest}
+use Rattle.request.specs.Shape.{requestOf}
 use Rattle.hearing.specs.declared.Heard.{Heard}
 
 -- what the tests of the whole line leave to be answered: the code that turns the line down, or 0 and its request

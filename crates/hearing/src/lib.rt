@@ -1,6 +1,6 @@
 // What is heard of a line: the code of the tests of the whole line, or its request.
-use request::Kind;
-use request::Request;
+use forms::Kind;
+use forms::Request;
 ghost use mathlib.Core.Path.{_≡_};
 ghost use Rattle.hearing.specs.Hearing.{heardOf};
 
@@ -18,7 +18,7 @@ pub fn hear(line: &[u8]) -> Heard
     if found != 0 {
         return Heard {
             code: found,
-            request: request::plain(Kind::NoShape),
+            request: forms::plain(Kind::NoShape),
         };
     }
     let request = request::request_of(line);

@@ -22,7 +22,8 @@ use Rattle.stability.specs.Verdict.{judgementCode, verdictOf}
 use Rattle.columns.proofs.Standing.{below-outside, above-outside}
 use Rattle.condition.specs.declared.Condition.{Condition}
 use Rattle.judging.specs.declared.Judged.the-variants.{Refused, Given}
-use Rattle.judging.specs.Judge.{weight, basisAt, judgedAt, judgedOf, judgedCode}
+use Rattle.total.specs.Total.{weight}
+use Rattle.judging.specs.Judge.{basisAt, judgedAt, judgedOf, judgedCode}
 use Rattle.judging.specs.Complete.{Ready}
 use Rattle.judging.specs.Codes.{JudgeCodes, CodesOfJudge}
 use Rattle.judging.proofs.Judging.{LimitsMet, ranges-sound, ready-around, ready-judged}
@@ -84,13 +85,13 @@ module _ (c : Condition) (w : LimitsMet c) where
     too-heavy : 1000000000 < weight c → judgedOf c ≡ Refused 34
     too-heavy h =
         let a = ready-around c w r in
-        ready-judged c w r ∙ ap (judgedAt c) (a .1) ∙ rw (w .holds, lt-leb (weight c) 1000000000 h)
+        ready-judged c w r ∙ ap (judgedAt c) (a .1) ∙ rw (lt-leb (c .total) 1000000000 (omega (arith, w .total)))
 
     judged : weight c ≤ 1000000000 → (n : ℕ) → 30 ≤ n → n ≤ 34 → code ≡ n → ⊥
     judged h n p q e =
         let a = ready-around c w r in
         let v = verdictOf (c .ship) (basisAt c (a .0)) in
-        let g : judgedOf c ≡ Given v = ready-judged c w r ∙ ap (judgedAt c) (a .1) ∙ rw (w .holds, le-leb (weight c) 1000000000 h) in
+        let g : judgedOf c ≡ Given v = ready-judged c w r ∙ ap (judgedAt c) (a .1) ∙ rw (le-leb (c .total) 1000000000 (omega (arith, w .total))) in
         judgement-other (v .judgement) n p q (sym (ap judgedCode g) ∙ e)
 
   -- ---- the cases, each with the codes that it excludes
@@ -200,4 +201,4 @@ module _ (c : Condition) (w : LimitsMet c) where
   sound-codes = by-ship (c .shipped) refl
 
 pub judge-codes : CodesOfJudge
-judge-codes c p r = sound-codes c (ranges-sound c p r)
+judge-codes c r = sound-codes c (ranges-sound c r)

@@ -1,32 +1,27 @@
 -- Judge on a condition whose records are within their limits: with a ship, two columns, a load and D between the first and the last
 -- column it comes to the columns around D.
 use mathlib.Core.Path.{_≡_, refl}
-use mathlib.Core.Bool.{Bool, true, false, not, _&&_, _||_}
+use mathlib.Core.Bool.{true}
 use mathlib.Core.List.{List, [], _∷_}
 use Prim.Native.Nat.{ℕ, _+_, _≤_, _<_}
 use native.Mathlib.Omega.{arith}
 use native.Mathlib.Numerals.{add-one}
 use lib.ListN.{length, getD}
-use borrow.Author.Tests.{le-leb, lt-ltb, ltb-true}
-use Rattle.whole.specs.Lists.{all}
-use Rattle.whole.proofs.Lists.{all-from}
+use borrow.Author.Tests.{le-leb, lt-ltb}
 use Rattle.record.specs.declared.Column.{Column}
-use Rattle.record.specs.declared.Hold.{Hold}
-use Rattle.record.specs.Filler.{noHold, noColumn}
-use Rattle.limits.specs.Limits.{shipLimits, loadLimits, columnLimits, holdLimits}
-use Rattle.limits.proofs.Ranges.{ship-range, load-range, column-range, hold-range}
+use Rattle.record.specs.Filler.{noColumn}
+use Rattle.limits.specs.Limits.{shipLimits, loadLimits, columnLimits}
+use Rattle.limits.proofs.Ranges.{ship-range, load-range, column-range}
 use Rattle.record.specs.Held.{held, lastD}
 use Rattle.columns.specs.Columns.{inOrder}
-use Rattle.grain.specs.Sum.{holdFits}
-use Rattle.grain.proofs.Figures.{hold-fits}
 use Rattle.columns.specs.declared.Around.{Around}
 use Rattle.columns.specs.declared.Around.the-variants.{At, Outside}
 use Rattle.columns.specs.Search.{columnsAround}
 use Rattle.columns.proofs.Standing.{between-found}
 use Rattle.condition.specs.declared.Condition.{Condition}
-use Rattle.condition.specs.Condition.{isHeld}
-use Rattle.judging.specs.Judge.{soundPlace, judgedAt, judgedOf}
-use Rattle.judging.specs.Complete.{Places, InRanges, Ready}
+use Rattle.total.specs.Total.{weight}
+use Rattle.judging.specs.Judge.{judgedAt, judgedOf}
+use Rattle.judging.specs.Complete.{InRanges, Ready}
 
 -- ---- of two columns or more, with D between the first and the last, two neighbours stand around it
 some-place : (d : ℕ) (ks : List Column) (x : Around) → 2 ≤ length ks → getD ks 0 noColumn .d ≤ d → d ≤ lastD ks → columnsAround d ks ≡ x → (i : ℕ) × (columnsAround d ks ≡ At i)
@@ -34,20 +29,6 @@ some-place d [] x n f l e = absurd (omega arith)
 some-place d (a ∷ []) x n f l e = absurd (omega arith)
 some-place d (a ∷ b ∷ ks) (At i) n f l e = (i, e)
 some-place d (a ∷ b ∷ ks) Outside n f l e = absurd (between-found d a b ks f l e)
-
--- ---- places that are empty, or whose hold is within its limits and fits
-pub record HoldSound (h : Hold) : Type 0 where
-  pub limits : holdLimits h ≡ true
-  pub fits : holdFits h ≡ true
-
-sound-by : (h : Hold) (x : Bool) → isHeld h ≡ x → (isHeld h ≡ true → HoldSound h) → (not x || holdLimits h && holdFits h) ≡ true
-sound-by h true e f =
-    let t = f e in rw (t .limits, t .fits)
-sound-by h false e f = refl
-
-pub holds-sound : (hs : List Hold) → ((i : ℕ) → i < length hs → isHeld (getD hs i noHold) ≡ true → HoldSound (getD hs i noHold)) → all soundPlace hs ≡ true
-holds-sound hs f =
-    all-from soundPlace hs noHold (λ i p. let h = getD hs i noHold in sound-by h (isHeld h) refl (f i p))
 
 -- ---- columns in their ranges, each D above the one before
 in-order : (ks : List Column) → ((i : ℕ) → i < length ks → columnLimits (getD ks i noColumn) ≡ true) → ((i : ℕ) → i + 1 < length ks → getD ks i noColumn .d < getD ks (i + 1) noColumn .d) → inOrder ks ≡ true
@@ -63,20 +44,16 @@ pub record LimitsMet (c : Condition) : Type 0 where
   pub ship : c .shipped ≡ true → shipLimits (c .ship) ≡ true
   pub load : c .loaded ≡ true → loadLimits (c .load) ≡ true
   pub columns : inOrder (held (c .columns)) ≡ true
-  pub holds : all soundPlace (c .holds) ≡ true
+  pub total : c .total ≡ weight c
 
-pub ranges-sound : (c : Condition) → Places c → InRanges c → LimitsMet c
-ranges-sound c p r =
+pub ranges-sound : (c : Condition) → InRanges c → LimitsMet c
+ranges-sound c r =
     let ks = held (c .columns) in
     record {
       ship = λ e. ship-range (c .ship) .1 (r .ship e);
       load = λ e. load-range (c .load) .1 (r .load e);
       columns = in-order ks (λ i h. column-range (getD ks i noColumn) .1 (r .columns i h)) (r .rising);
-      holds = holds-sound (c .holds)
-          (λ i h e.
-          let x = getD (c .holds) i noHold in
-          let t = r .holds i (omega (arith, p .holdPlaces)) (ltb-true 0 (x .head .count) e) in
-          record { limits = hold-range x .1 (t .0); fits = hold-fits x .1 (t .1) });
+      total = r .total;
     }
 
 -- judge comes to the columns around D

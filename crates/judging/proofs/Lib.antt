@@ -1,5 +1,4 @@
 pub mod Columns
-pub mod Weighing
 pub mod Shown
 pub mod Judging
 pub mod Codes

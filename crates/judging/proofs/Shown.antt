@@ -7,7 +7,7 @@ use Prim.Native.Nat.{ℕ, _≤_}
 use native.Mathlib.Omega.{arith}
 use lib.Dec.{leb}
 use lib.ListN.{length}
-use Rattle.whole.specs.Lists.{all, isOneOf}
+use Rattle.whole.specs.Lists.{isOneOf}
 use Rattle.limits.specs.Limits.{shipLimits, loadLimits}
 use Rattle.record.specs.Held.{held}
 use Rattle.columns.specs.Columns.{inOrder}
@@ -20,7 +20,7 @@ use Rattle.stability.proofs.Covers.{upper-le}
 use Rattle.condition.specs.declared.Condition.{Condition}
 use Rattle.judging.specs.declared.Judged.{Judged}
 use Rattle.judging.specs.declared.Judged.the-variants.{Refused, Given}
-use Rattle.judging.specs.Judge.{greatestWeight, soundPlace, weight, basisAt, judgedAt, judgedOf}
+use Rattle.judging.specs.Judge.{greatestWeight, basisAt, judgedAt, judgedOf}
 
 -- judge's refusals
 abbrev pub refusals : List ℕ
@@ -35,7 +35,7 @@ module _ (c : Condition) (P : Judged → Type 0) (refusal : (n : ℕ) → isOneO
   by-around : (a : Around) → P (judgedAt c a)
   unfolding isOneOf
   by-around Outside = refusal 33 refl
-  by-around (At i) = by-test (all soundPlace (c .holds) && leb (weight c) greatestWeight) (given i) (refusal 34 refl)
+  by-around (At i) = by-test (leb (c .total) greatestWeight) (given i) (refusal 34 refl)
 
   pub judged-by : P (judgedOf c)
   unfolding judgedOf isOneOf

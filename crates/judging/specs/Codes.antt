@@ -8,8 +8,9 @@ use lib.ListN.{length, getD}
 use Rattle.record.specs.Held.{held, lastD}
 use Rattle.record.specs.Filler.{noColumn}
 use Rattle.condition.specs.declared.Condition.{Condition}
-use Rattle.judging.specs.Judge.{weight, judgedOf, judgedCode}
-use Rattle.judging.specs.Complete.{Places, InRanges, Ready}
+use Rattle.total.specs.Total.{weight}
+use Rattle.judging.specs.Judge.{judgedOf, judgedCode}
+use Rattle.judging.specs.Complete.{InRanges, Ready}
 
 pub record JudgeCodes (c : Condition) (code : ℕ) : Type 0 where
   pub thirty : (code ≡ 30) ↔ (c .shipped ≡ false)
@@ -23,4 +24,4 @@ pub record JudgeCodes (c : Condition) (code : ℕ) : Type 0 where
 
 -- on every condition whose records are in their ranges
 abbrev pub CodesOfJudge : Type 0
-CodesOfJudge = (c : Condition) → Places c → InRanges c → JudgeCodes c (judgedCode (judgedOf c))
+CodesOfJudge = (c : Condition) → InRanges c → JudgeCodes c (judgedCode (judgedOf c))

@@ -8,7 +8,7 @@ use Rattle.record.specs.Filler.{noColumn, noPart, noHold}
 use Rattle.limits.specs.Ranges.{ShipRange, LoadRange, ColumnRange, HoldRange}
 use Rattle.grain.specs.Figures.{HoldFits}
 use Rattle.condition.specs.declared.Condition.{Condition}
-use Rattle.judging.specs.Judge.{weight}
+use Rattle.total.specs.Total.{weight}
 
 -- array lengths as the type has them, and no more columns than places
 pub record Places (c : Condition) : Type 0 where
@@ -19,7 +19,7 @@ pub record Places (c : Condition) : Type 0 where
   pub partPlaces : (n : ℕ) → n < 16 → length (getD (c .holds) n noHold .parts) ≡ 6
   pub cellPlaces : (n : ℕ) → n < 16 → (i : ℕ) → i < 6 → length (getD (getD (c .holds) n noHold .parts) i noPart .cells) ≡ 8
 
--- each record in its ranges, each D above the one before, every void fits
+-- each record in its ranges, each D above the one before, every void fits, and the stored figure is the sum over the holds
 pub record InRanges (c : Condition) : Type 0 where
   pub ship : c .shipped ≡ true → ShipRange (c .ship)
   pub load : c .loaded ≡ true → LoadRange (c .load)
@@ -30,6 +30,7 @@ pub record InRanges (c : Condition) : Type 0 where
   pub holds :
       (n : ℕ) → n < 16 → 0 < getD (c .holds) n noHold .head .count →
       HoldRange (getD (c .holds) n noHold) × HoldFits (getD (c .holds) n noHold)
+  pub total : c .total ≡ weight c
 
 -- none of 30 to 33 applies, each said by its own words: a ship; two columns; a load; D neither below the first nor above the last
 -- column

@@ -1,11 +1,9 @@
-// Judge: the weight moments together, the codes 30 to 34, and the verdict.
+// Judge: the codes 30 to 34, and the verdict.
 use arms::Basis;
 use columns::Around;
 use condition::Condition;
-use grain::Weighed;
 use record::Column;
 use record::Columns;
-use record::Hold;
 use record::Load;
 use record::Rule;
 use record::Ship;
@@ -18,16 +16,10 @@ ghost use lib.Dec.{leb};
 ghost use Rattle.record.specs.Held.{held};
 ghost use Rattle.columns.specs.Columns.{inOrder};
 ghost use Rattle.stability.specs.Verdict.{judgementCode};
-ghost use Rattle.judging.specs.Judge.{judgedOf, judgedAt, placeWeight, weightsOf, Between};
+ghost use Rattle.judging.specs.Judge.{judgedOf, judgedAt, Between};
 
 // The greatest weight moment that judge takes, in kg·m.
 const GREATEST_WEIGHT: u64 = 1000000000;
-
-// The weight moments together, or that judge refuses them.
-pub enum Weights {
-    Together(u64),
-    TooMuch,
-}
 
 // What judge answers: a refusal with its code, or a verdict.
 pub enum Judged {
@@ -40,42 +32,6 @@ fn enough_columns(cs: Columns) -> bool
     ensures { λ r. ⌜ r ≡ (leb 2 (length (held cs)) && inOrder (held cs)) ⌝ }
 {
     choice::both(2 <= cs.count, columns::in_order(cs))
-}
-
-// The weight moment of one place: nothing where it holds no hold.
-fn place_weight(h: Hold) -> Weights
-    ensures { λ r. ⌜ r ≡ placeWeight h ⌝ }
-{
-    let head = h.head;
-    if head.count == 0 {
-        return Weights::Together(0);
-    }
-    let w = grain::weigh(h);
-    match w {
-        Weighed::Weight(m) => Weights::Together(m),
-        Weighed::Limits => Weights::TooMuch,
-        Weighed::NoFit => Weights::TooMuch,
-    }
-}
-
-// The weight moments of all holds together.
-fn weights_of(holds: [Hold; 16]) -> Weights
-    ensures { λ r. ⌜ r ≡ weightsOf holds ⌝ }
-{
-    let mut sum: u64 = 0;
-    let mut i: usize = 0;
-    while i < 16 {
-        let h = holds[i];
-        let Weights::Together(w) = place_weight(h) else {
-            return Weights::TooMuch;
-        };
-        if GREATEST_WEIGHT - sum < w {
-            return Weights::TooMuch;
-        }
-        sum += w;
-        i += 1;
-    }
-    Weights::Together(sum)
 }
 
 // Gives the column back, for the prover: that it has ten KN is known of a parameter alone.
@@ -91,10 +47,10 @@ fn judge_between(c: Condition, i: usize) -> Judged
     requires { ⌜ Between c i ⌝ }
     ensures { λ r. ⌜ r ≡ judgedAt c (Around.At i) ⌝ }
 {
-    let holds = c.holds;
-    let Weights::Together(weight) = weights_of(holds) else {
+    let weight = c.total;
+    if GREATEST_WEIGHT < weight {
         return Judged::Refused(34);
-    };
+    }
     let columns = c.columns;
     let first = columns.places[i];
     let second = columns.places[i + 1];

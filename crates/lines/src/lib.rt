@@ -7,6 +7,7 @@ ghost use Prim.Native.Nat.{_+_, _≤_, _<_};
 ghost use lib.ListN.{length, take};
 ghost use Rattle.hearing.specs.Hearing.{heardOf};
 ghost use Rattle.panel.specs.Step.{stepOf};
+ghost use Rattle.panel.specs.Handed.{momentFound};
 ghost use Rattle.lines.specs.Taking.{FromBlock, RepliedBehind, BegunTaken, Room, FirstMoved, BlockMoved};
 
 // With more bytes of replies than these waiting, fewer than the 2,100 that a show needs are left of the 65,536.
@@ -42,7 +43,7 @@ fn behind(block: &[u8], at: usize) -> usize
 fn answer_line(c: Condition, line: &[u8], h: Heard, out: &mut [u8], filled: usize) -> Replied
     requires { ⌜ h ≡ heardOf (now line) ⌝ }
     requires { ⌜ (filled + 2100 ≤ 65536) × (length (now out) ≡ 65536) ⌝ }
-    ensures { λ r. ⌜ RepliedBehind (stepOf c (now (line .entry)) 2100) r filled (now (out .entry)) (now (out .exit)) ⌝ }
+    ensures { λ r. ⌜ RepliedBehind (stepOf c (now (line .entry)) 2100) (momentFound (h .request)) r filled (now (out .entry)) (now (out .exit)) ⌝ }
 {
     panel::answer(c, line, h, &mut out[filled..])
 }
@@ -74,7 +75,7 @@ fn take_lines(f: Feed, block: &[u8], at: usize, out: &mut [u8]) -> Taken
         i = behind(block, e);
         if r.code == 0 {
             let q = h.request;
-            c = effects::effect(c, q);
+            c = effects::effect(c, q, r.moment);
         }
     }
     stopped(c, left, used, filled, i)

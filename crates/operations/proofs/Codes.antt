@@ -23,7 +23,7 @@ use Rattle.limits.proofs.Ranges.{ship-range, load-range, column-range, hold-ran
 use Rattle.columns.specs.declared.Added.the-variants.{Taken, Limits, Full, NotAbove}
 use Rattle.columns.specs.Columns.{isAbove, columnAnswer, addedCode}
 use Rattle.columns.proofs.Adding.{above-is}
-use Rattle.grain.specs.Sum.{holdFits}
+use Rattle.grain.specs.Sum.{holdFits, weightMoment}
 use Rattle.grain.proofs.Figures.{hold-fits}
 use Rattle.condition.specs.declared.Condition.{Condition}
 use Rattle.condition.specs.Condition.{isHeld}
@@ -136,12 +136,12 @@ module _ (c : Condition) where
   pub hold-codes : (n : ℕ) (h : Hold) → HoldCodes n h (holdOperation c n h .code)
   unfolding holdOperation
   hold-codes n h =
-      let t = two-codes (placeLimits n && holdLimits h) (holdFits h) (withHold c n h) 21 (omega arith) (both (placeLimits n) (holdLimits h) (place-range n) (hold-range h)) (hold-fits h) in
+      let t = two-codes (placeLimits n && holdLimits h) (holdFits h) (withHold c n h (weightMoment h)) 21 (omega arith) (both (placeLimits n) (holdLimits h) (place-range n) (hold-range h)) (hold-fits h) in
       record { twenty = t .twenty; twentyOne = t .second; taken = t .taken }
 
   pub drop-codes : (n : ℕ) → DropCodes c n (dropOperation c n .code)
   unfolding dropOperation
   drop-codes n =
       let held = getD (c .holds) (n - 1) noHold .head .count in
-      let t = two-codes (placeLimits n) (isHeld (holdAt c n)) (withHold c n noHold) 24 (omega arith) (place-range n) (ltb-true 0 held, lt-ltb 0 held) in
+      let t = two-codes (placeLimits n) (isHeld (holdAt c n)) (withHold c n noHold 0) 24 (omega arith) (place-range n) (ltb-true 0 held, lt-ltb 0 held) in
       record { twenty = t .twenty; twentyFour = t .second; taken = t .taken }

@@ -14,7 +14,7 @@ use Rattle.limits.specs.Limits.{shipLimits, loadLimits, holdLimits, placeLimits
 use Rattle.columns.specs.declared.Added.{Added}
 use Rattle.columns.specs.declared.Added.the-variants.{Taken, Limits, Full, NotAbove}
 use Rattle.columns.specs.Columns.{columnAnswer, addedCode, withColumn}
-use Rattle.grain.specs.Sum.{holdFits}
+use Rattle.grain.specs.Sum.{holdFits, weightMoment}
 use Rattle.condition.specs.declared.Condition.{Condition}
 use Rattle.condition.specs.Condition.{isHeld}
 use Rattle.storing.specs.Storing.{withShip, withLoad, withColumns, withHold, holdAt}
@@ -80,25 +80,25 @@ module _ (c : Condition) where
     pub hold-passed : holdOperation c n h .code ≡ 0 → HoldPassed n h
     unfolding holdOperation
     hold-passed e =
-        let t = passed (placeLimits n && holdLimits h) (cond (holdFits h) (taken (withHold c n h)) (refusedWith 21 c)) (refusedWith 20 c) (omega arith) e in
+        let t = passed (placeLimits n && holdLimits h) (cond (holdFits h) (taken (withHold c n h (weightMoment h))) (refusedWith 21 c)) (refusedWith 20 c) (omega arith) e in
         let u = and-true (placeLimits n) (holdLimits h) (t .0) in
         record {
           place = u .0;
           limits = u .1;
-          fits = passed (holdFits h) (taken (withHold c n h)) (refusedWith 21 c) (omega arith) (t .1) .0;
+          fits = passed (holdFits h) (taken (withHold c n h (weightMoment h))) (refusedWith 21 c) (omega arith) (t .1) .0;
         }
 
-    pub hold-taken : HoldPassed n h → holdOperation c n h ≡ taken (withHold c n h)
+    pub hold-taken : HoldPassed n h → holdOperation c n h ≡ taken (withHold c n h (weightMoment h))
     unfolding holdOperation
     hold-taken p = rw (p .place, p .limits, p .fits)
 
   pub drop-passed : (n : ℕ) → dropOperation c n .code ≡ 0 → (placeLimits n ≡ true) × (isHeld (holdAt c n) ≡ true)
   unfolding dropOperation
   drop-passed n e =
-      let t = passed (placeLimits n) (cond (isHeld (holdAt c n)) (taken (withHold c n noHold)) (refusedWith 24 c)) (refusedWith 20 c) (omega arith) e in
-      (t .0, passed (isHeld (holdAt c n)) (taken (withHold c n noHold)) (refusedWith 24 c) (omega arith) (t .1) .0)
+      let t = passed (placeLimits n) (cond (isHeld (holdAt c n)) (taken (withHold c n noHold 0)) (refusedWith 24 c)) (refusedWith 20 c) (omega arith) e in
+      (t .0, passed (isHeld (holdAt c n)) (taken (withHold c n noHold 0)) (refusedWith 24 c) (omega arith) (t .1) .0)
 
-  pub drop-taken : (n : ℕ) → placeLimits n ≡ true → isHeld (holdAt c n) ≡ true → dropOperation c n ≡ taken (withHold c n noHold)
+  pub drop-taken : (n : ℕ) → placeLimits n ≡ true → isHeld (holdAt c n) ≡ true → dropOperation c n ≡ taken (withHold c n noHold 0)
   unfolding dropOperation
   drop-taken n p h = rw (p, h)
 
@@ -115,8 +115,8 @@ module _ (c : Condition) where
   pub column-effect : (k : Column) → columnOperation c k .code ≡ 0 → withColumns c (withColumn (c .columns) k) ≡ columnOperation c k .after
   column-effect k e = after (column-taken k (column-passed k e))
 
-  pub hold-effect : (n : ℕ) (h : Hold) → holdOperation c n h .code ≡ 0 → withHold c n h ≡ holdOperation c n h .after
+  pub hold-effect : (n : ℕ) (h : Hold) → holdOperation c n h .code ≡ 0 → withHold c n h (weightMoment h) ≡ holdOperation c n h .after
   hold-effect n h e = after (hold-taken n h (hold-passed n h e))
 
-  pub drop-effect : (n : ℕ) → dropOperation c n .code ≡ 0 → withHold c n noHold ≡ dropOperation c n .after
+  pub drop-effect : (n : ℕ) → dropOperation c n .code ≡ 0 → withHold c n noHold 0 ≡ dropOperation c n .after
   drop-effect n e = let t = drop-passed n e in after (drop-taken n (t .0) (t .1))

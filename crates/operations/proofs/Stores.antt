@@ -5,6 +5,7 @@ use Rattle.record.specs.declared.Ship.{Ship}
 use Rattle.record.specs.declared.Load.{Load}
 use Rattle.record.specs.declared.Column.{Column}
 use Rattle.record.specs.declared.Hold.{Hold}
+use Rattle.grain.specs.Sum.{weightMoment}
 use Rattle.condition.specs.declared.Condition.{Condition}
 use Rattle.storing.specs.Stores.{ShipStored, LoadStored, ColumnStored, HoldStored, HoldDropped}
 use Rattle.storing.proofs.Taking.{place-within}
@@ -23,7 +24,7 @@ module _ (c : Condition) where
   column-stored k e = rw (← column-effect c k e) (column-put c k (column-passed c k e))
 
   pub hold-stored : (n : ℕ) (h : Hold) → holdOperation c n h .code ≡ 0 → HoldStored c n h (holdOperation c n h .after)
-  hold-stored n h e = rw (← hold-effect c n h e) (hold-put c n h (place-within n (hold-passed c n h e .place)))
+  hold-stored n h e = rw (← hold-effect c n h e) (hold-put c n h (weightMoment h) (place-within n (hold-passed c n h e .place)))
 
   pub hold-dropped : (n : ℕ) → dropOperation c n .code ≡ 0 → HoldDropped c n (dropOperation c n .after)
   hold-dropped n e = rw (← drop-effect c n e) (drop-put c n (place-within n (drop-passed c n e .0)))

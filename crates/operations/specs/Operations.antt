@@ -11,7 +11,9 @@ use Rattle.limits.specs.Limits.{shipLimits, loadLimits, holdLimits, placeLimits
 use Rattle.columns.specs.declared.Added.{Added}
 use Rattle.columns.specs.declared.Added.the-variants.{Taken, Limits, Full, NotAbove}
 use Rattle.columns.specs.Columns.{columnAnswer, addedCode, withColumn}
-use Rattle.grain.specs.Sum.{holdFits}
+use Rattle.grain.specs.declared.Weighed.{Weighed}
+use Rattle.grain.specs.declared.Weighed.the-variants.{Limits as Outside}
+use Rattle.grain.specs.Sum.{holdFits, weightMoment, weighedOf}
 use Rattle.condition.specs.declared.Condition.{Condition}
 use Rattle.condition.specs.Condition.{isHeld}
 use Rattle.storing.specs.Storing.{withShip, withLoad, withColumns, withHold, holdAt}
@@ -48,9 +50,14 @@ columnOperation c k = columnChange c k (columnAnswer (held (c .columns)) k)
 -- Hold: 20, 21
 unfoldable pub holdOperation : Condition → ℕ → Hold → Change
 holdOperation c n h =
-    cond (placeLimits n && holdLimits h) (cond (holdFits h) (taken (withHold c n h)) (refusedWith 21 c)) (refusedWith 20 c)
+    cond (placeLimits n && holdLimits h) (cond (holdFits h) (taken (withHold c n h (weightMoment h))) (refusedWith 21 c)) (refusedWith 20 c)
+
+-- the same as the program finds it: the answer of the hold's weighing, whose code is this one and whose moment goes into the figure
+-- (proofs/Taking.antt, hold-answered)
+unfoldable pub holdAnswer : ℕ → Hold → Weighed
+holdAnswer n h = cond (placeLimits n) (weighedOf h) Outside
 
 -- Drop: 20, 24
 unfoldable pub dropOperation : Condition → ℕ → Change
 dropOperation c n =
-    cond (placeLimits n) (cond (isHeld (holdAt c n)) (taken (withHold c n noHold)) (refusedWith 24 c)) (refusedWith 20 c)
+    cond (placeLimits n) (cond (isHeld (holdAt c n)) (taken (withHold c n noHold 0)) (refusedWith 24 c)) (refusedWith 20 c)

@@ -14,7 +14,7 @@ ghost use Rattle.record.specs.Filler.{noHold};
 ghost use Rattle.columns.specs.Columns.{addedCode};
 ghost use Rattle.grain.specs.Sum.{weighedCode};
 ghost use Rattle.condition.specs.Condition.{isHeld};
-ghost use Rattle.operations.specs.Operations.{shipOperation, loadOperation, columnOperation, holdOperation, dropOperation};
+ghost use Rattle.operations.specs.Operations.{shipOperation, loadOperation, columnOperation, holdAnswer, dropOperation};
 
 // 00 within the limits, 20 outside them.
 fn limit_code(inside: bool) -> u8
@@ -61,7 +61,7 @@ pub fn column_code(c: Condition, k: Column) -> u8
 }
 
 // The paper's code for each answer of a hold.
-fn weighed_code(w: Weighed) -> u8
+pub fn weighed_code(w: Weighed) -> u8
     ensures { λ r. ⌜ r ≡ weighedCode w ⌝ }
 {
     match w {
@@ -71,14 +71,14 @@ fn weighed_code(w: Weighed) -> u8
     }
 }
 
-// 00, or 20, 21.
-pub fn hold_code(n: u32, h: Hold) -> u8
-    ensures { λ r. ⌜ ((c : Condition) → r ≡ holdOperation c n h .code) ⌝ }
+// The answer to a hold line: its code is 00, or 20, 21.
+pub fn hold_answer(n: u32, h: Hold) -> Weighed
+    ensures { λ r. ⌜ r ≡ holdAnswer n h ⌝ }
 {
     if !limits::place_limits(n) {
-        return 20;
+        return Weighed::Limits;
     }
-    weighed_code(grain::weigh(h))
+    grain::weigh(h)
 }
 
 // Whether there is a hold n.

@@ -12,14 +12,15 @@ use Rattle.line_codes.specs.declared.Reading.the-variants.{Sound, TooLong, BadB
 use Rattle.text.specs.Token.{tokens}
 use Rattle.line_codes.specs.Line.{readingOf}
 use Rattle.line_codes.proofs.Alike.{sound-passes}
+use Rattle.forms.specs.Carried.{carriedRequest}
 use Rattle.request.specs.Shape.{requestOf}
-use Rattle.request.specs.Carried.{carriedRequest}
 use Rattle.condition.specs.declared.Condition.{Condition}
 use Rattle.operations.specs.Operations.{refusedWith}
 use Rattle.hearing.specs.declared.Heard.{Heard}
 use Rattle.hearing.specs.Hearing.{heardBy, heardOf}
 use Rattle.effects.specs.Effect.{effectOf}
 use Rattle.panel.specs.Step.{Outcome, answered, outcomeOf, outcomeAfter, stepOf}
+use Rattle.panel.specs.Handed.{momentFound}
 use Rattle.panel.proofs.Codes.{right}
 use Rattle.panel.proofs.Carrying.{carried-outcome}
 use Rattle.panel.proofs.Effects.{effect-is}
@@ -70,10 +71,10 @@ module _ (c : Condition) (line : List ℕ) (n : ℕ) where
       pub answer-kept : (code ≡ 0 → ⊥) → c ≡ stepOf c line n .after
       answer-kept f = sym (right c line n .unchanged (λ e. f (coded ∙ e)))
 
-      pub answer-effect : code ≡ 0 → (d : Condition) → d ≡ effectOf c (h .request) → d ≡ stepOf c line n .after
-      answer-effect e d f =
+      pub answer-effect : code ≡ 0 → (w : ℕ) → w ≡ momentFound (h .request) → (d : Condition) → d ≡ effectOf c (h .request) w → d ≡ stepOf c line n .after
+      answer-effect e w m d f =
           let o = step-asked (sym coded ∙ e) in
-          f ∙ effect-is c (tokens line) n (h .request) (ap (λ (o : Outcome). o .code) (sym o) ∙ sym coded ∙ e) ∙ ap (λ (o : Outcome). o .after) (sym o)
+          f ∙ ap (effectOf c (h .request)) m ∙ effect-is c (tokens line) n (h .request) (ap (λ (o : Outcome). o .code) (sym o) ∙ sym coded ∙ e) ∙ ap (λ (o : Outcome). o .after) (sym o)
 
 -- ---- a line with a request passed the tests 10 to 13
 heard-request : (line : List ℕ) (t : Reading) → heardBy line t .code ≡ 0 → (t ≡ Sound) × (heardBy line t .request ≡ carriedRequest (requestOf (tokens line)))

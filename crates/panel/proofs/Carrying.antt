@@ -11,12 +11,12 @@ use Rattle.record.specs.declared.Column.{Column}
 use Rattle.record.specs.declared.Hold.{Hold}
 use Rattle.limits.specs.Limits.{shipLimits, loadLimits, columnLimits, holdLimits, placeLimits}
 use Rattle.columns.specs.Columns.{columnAnswer}
-use Rattle.request.specs.declared.Kind.{Kind}
-use Rattle.request.specs.declared.Kind.the-variants.{ShipLine, ColumnLine, LoadLine, HoldLine, DropLine, JudgeLine, ClearLine, ShowLine, NoShape}
-use Rattle.request.specs.declared.Request.{Request}
+use Rattle.forms.specs.declared.Kind.{Kind}
+use Rattle.forms.specs.declared.Kind.the-variants.{ShipLine, ColumnLine, LoadLine, HoldLine, DropLine, JudgeLine, ClearLine, ShowLine, TotalLine, NoShape}
+use Rattle.forms.specs.declared.Request.{Request}
+use Rattle.forms.specs.Carried.{carriedShip, carriedLoad, carriedColumn, carriedHold, carriedKind, carriedRequest}
+use Rattle.forms.proofs.Kept.{same-ship, same-load, same-column, same-hold, kept-ship, kept-load, kept-column}
 use Rattle.request.specs.Shape.{requestOf}
-use Rattle.request.specs.Carried.{carriedShip, carriedLoad, carriedColumn, carriedHold, carriedKind, carriedRequest}
-use Rattle.request.proofs.Kept.{same-ship, same-load, same-column, same-hold, kept-ship, kept-load, kept-column}
 use Rattle.request.proofs.Tidy.{kept-hold}
 use Rattle.condition.specs.declared.Condition.{Condition}
 use Rattle.operations.specs.Operations.{shipOperation, loadOperation, columnOperation, holdOperation}
@@ -53,6 +53,7 @@ module _ (c : Condition) where
     same-outcome JudgeLine h col k = refl
     same-outcome ClearLine h col k = refl
     same-outcome ShowLine h col k = refl
+    same-outcome TotalLine h col k = refl
     same-outcome NoShape h col k = refl
 
     pub carried-outcome : outcomeOf c ts n (carriedRequest (requestOf ts)) ≡ outcomeOf c ts n (requestOf ts)
@@ -69,6 +70,7 @@ carried-by (DropLine n) e = cc
 carried-by JudgeLine e = cc
 carried-by ClearLine e = cc
 carried-by ShowLine e = refl
+carried-by TotalLine e = cc
 carried-by NoShape e = cc
 
 pub carried-show : (ts : List Token) (r : Request) → r ≡ carriedRequest (requestOf ts) → r .kind ≡ ShowLine → requestOf ts .kind ≡ ShowLine

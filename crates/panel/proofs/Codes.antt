@@ -15,9 +15,9 @@ use Rattle.line_codes.specs.declared.Reading.{Reading}
 use Rattle.line_codes.specs.declared.Reading.the-variants.{Sound, TooLong, BadByte, NotOneForm, BadNumber}
 use Rattle.text.specs.Token.{Token, tokens}
 use Rattle.line_codes.specs.Line.{readingOf}
-use Rattle.request.specs.declared.Kind.{Kind}
-use Rattle.request.specs.declared.Kind.the-variants.{ShipLine, ColumnLine, LoadLine, HoldLine, DropLine, JudgeLine, ClearLine, ShowLine, NoShape}
-use Rattle.request.specs.declared.Request.{Request}
+use Rattle.forms.specs.declared.Kind.{Kind}
+use Rattle.forms.specs.declared.Kind.the-variants.{ShipLine, ColumnLine, LoadLine, HoldLine, DropLine, JudgeLine, ClearLine, ShowLine, TotalLine, NoShape}
+use Rattle.forms.specs.declared.Request.{Request}
 use Rattle.request.specs.Shape.{requestOf}
 use Rattle.condition.specs.declared.Condition.{Condition}
 use Rattle.judging.specs.declared.Judged.{Judged}
@@ -37,6 +37,7 @@ codesOf (DropLine n) = 0 ∷ 20 ∷ 24 ∷ []
 codesOf JudgeLine = 0 ∷ 30 ∷ 31 ∷ 32 ∷ 33 ∷ 34 ∷ 40 ∷ 41 ∷ 42 ∷ 43 ∷ []
 codesOf ClearLine = 0 ∷ []
 codesOf ShowLine = 0 ∷ 16 ∷ []
+codesOf TotalLine = 0 ∷ []
 codesOf NoShape = 14 ∷ []
 
 -- and of all requests
@@ -53,6 +54,7 @@ codes-listed (DropLine n) = refl
 codes-listed JudgeLine = refl
 codes-listed ClearLine = refl
 codes-listed ShowLine = refl
+codes-listed TotalLine = refl
 codes-listed NoShape = refl
 
 -- of every line
@@ -95,6 +97,7 @@ module _ (c : Condition) where
         (λ i. right-same c _ (judgement-listed (verdictOf (c .ship) (basisAt c i) .judgement)))
     right-by ClearLine h col = right-taken c _ refl
     right-by ShowLine h col = right-same c (showCode lent) (show-listed (ltb lent 2100))
+    right-by TotalLine h col = right-same c 0 refl
     right-by NoShape h col = right-same c _ refl
 
     pub request-code : (k : Kind) (h : Hold) (col : Column) → isOneOf requestCodes (outcomeBy c ts lent k h col .code) ≡ true

@@ -6,9 +6,9 @@ use borrow.Author.Tests.{lt-leb}
 use Rattle.record.specs.declared.Column.{Column}
 use Rattle.record.specs.declared.Hold.{Hold}
 use Rattle.record.specs.Held.{held}
-use Rattle.request.specs.declared.Kind.{Kind}
-use Rattle.request.specs.declared.Kind.the-variants.{ShipLine, ColumnLine, LoadLine, HoldLine, DropLine, JudgeLine, ClearLine, ShowLine, NoShape}
-use Rattle.request.specs.declared.Request.{Request}
+use Rattle.forms.specs.declared.Kind.{Kind}
+use Rattle.forms.specs.declared.Kind.the-variants.{ShipLine, ColumnLine, LoadLine, HoldLine, DropLine, JudgeLine, ClearLine, ShowLine, TotalLine, NoShape}
+use Rattle.forms.specs.declared.Request.{Request}
 use Rattle.text.specs.Token.{Token}
 use Rattle.condition.specs.declared.Condition.{Condition}
 use Rattle.judging.specs.declared.Judged.{Judged}
@@ -16,7 +16,9 @@ use Rattle.judging.specs.declared.Judged.the-variants.{Refused, Given}
 use Rattle.judging.specs.Judge.{judgedOf}
 use Rattle.storing.proofs.Taking.{taken-is}
 use Rattle.operations.proofs.Effects.{ship-effect, load-effect, column-passed, column-effect, hold-passed, hold-effect, drop-passed, drop-effect}
+use Rattle.operations.proofs.Taking.{answer-moment}
 use Rattle.panel.specs.Step.{verdictGiven, outcomeBy, outcomeOf}
+use Rattle.panel.specs.Handed.{momentBy, momentFound}
 use Rattle.effects.specs.Effect.{effectBy, effectOf}
 
 module _ (c : Condition) where
@@ -26,18 +28,19 @@ module _ (c : Condition) where
   judge-same (Given v) = refl
 
   module _ (ts : List Token) (n : ℕ) where
-    effect-by : (k : Kind) (h : Hold) (col : Column) → outcomeBy c ts n k h col .code ≡ 0 → effectBy c k h col ≡ outcomeBy c ts n k h col .after
+    effect-by : (k : Kind) (h : Hold) (col : Column) → outcomeBy c ts n k h col .code ≡ 0 → effectBy c k h col (momentBy k h) ≡ outcomeBy c ts n k h col .after
     effect-by (ShipLine s) h col e = ship-effect c s e
     effect-by ColumnLine h col e =
         rw (lt-leb 20 _ (taken-is (held (c .columns)) col (column-passed c col e) .below)) (column-effect c col e)
     effect-by (LoadLine l) h col e = load-effect c l e
-    effect-by (HoldLine m) h col e = rw (hold-passed c m h e .place) (hold-effect c m h e)
+    effect-by (HoldLine m) h col e = let p = hold-passed c m h e in rw (p .place, answer-moment m h p) (hold-effect c m h e)
     effect-by (DropLine m) h col e = rw (drop-passed c m e .0) (drop-effect c m e)
     effect-by JudgeLine h col e = sym (judge-same (judgedOf c))
     effect-by ClearLine h col e = refl
     effect-by ShowLine h col e = refl
+    effect-by TotalLine h col e = refl
     effect-by NoShape h col e = refl
 
-    pub effect-is : (r : Request) → outcomeOf c ts n r .code ≡ 0 → effectOf c r ≡ outcomeOf c ts n r .after
+    pub effect-is : (r : Request) → outcomeOf c ts n r .code ≡ 0 → effectOf c r (momentFound r) ≡ outcomeOf c ts n r .after
     unfolding outcomeOf effectOf
     effect-is r e = effect-by (r .kind) (r .hold) (r .column) e

@@ -10,8 +10,8 @@ use Rattle.text.specs.Token.{Token, tokens}
 use Rattle.line_codes.specs.declared.Reading.{Reading}
 use Rattle.line_codes.specs.declared.Reading.the-variants.{Sound, TooLong, BadByte, NotOneForm, BadNumber}
 use Rattle.line_codes.specs.Line.{readingOf}
-use Rattle.request.specs.declared.Kind.{Kind}
-use Rattle.request.specs.declared.Kind.the-variants.{ShipLine, ColumnLine, LoadLine, HoldLine, DropLine, JudgeLine, ClearLine, ShowLine, NoShape}
+use Rattle.forms.specs.declared.Kind.{Kind}
+use Rattle.forms.specs.declared.Kind.the-variants.{ShipLine, ColumnLine, LoadLine, HoldLine, DropLine, JudgeLine, ClearLine, ShowLine, TotalLine, NoShape}
 use Rattle.request.specs.Shape.{requestOf}
 use Rattle.condition.specs.declared.Condition.{Condition}
 use Rattle.panel.specs.Step.{outcomeBy, outcomeOf, outcomeAfter, stepOf}
@@ -26,6 +26,7 @@ module _ (c : Condition) (n : ℕ) (p : 2100 ≤ n) where
   any-by ts JudgeLine h col = refl
   any-by ts ClearLine h col = refl
   any-by ts ShowLine h col = rw (le-ltb n 2100 p)
+  any-by ts TotalLine h col = refl
   any-by ts NoShape h col = refl
 
   any-after : (line : List ℕ) (r : Reading) → outcomeAfter c line n r ≡ outcomeAfter c line 2100 r

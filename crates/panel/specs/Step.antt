@@ -11,17 +11,16 @@ use Rattle.line_codes.specs.declared.Reading.{Reading}
 use Rattle.line_codes.specs.declared.Reading.the-variants.{Sound, TooLong, BadByte, NotOneForm, BadNumber}
 use Rattle.text.specs.Token.{Token, tokens}
 use Rattle.line_codes.specs.Line.{readingOf, readingCode}
-use Rattle.request.specs.declared.Kind.{Kind}
-use Rattle.request.specs.declared.Kind.the-variants.{ShipLine, ColumnLine, LoadLine, HoldLine, DropLine, JudgeLine, ClearLine, ShowLine, NoShape}
-use Rattle.request.specs.declared.Request.{Request}
+use Rattle.forms.specs.declared.Kind.{Kind}
+use Rattle.forms.specs.declared.Kind.the-variants.{ShipLine, ColumnLine, LoadLine, HoldLine, DropLine, JudgeLine, ClearLine, ShowLine, TotalLine, NoShape}
+use Rattle.forms.specs.declared.Request.{Request}
 use Rattle.request.specs.Shape.{requestOf, kindCode}
 use lib.ListN.{length}
 use Rattle.reply.specs.Written.{over}
-use Rattle.reply.specs.Replies.{answerReply, refusalReply, verdictReply}
+use Rattle.reply.specs.Replies.{answerReply, refusalReply, verdictReply, totalReply}
 use Rattle.showing.specs.Show.{showReply}
 use Rattle.condition.specs.declared.Condition.{Condition}
 use Rattle.condition.specs.Condition.{empty}
-use Rattle.panel.specs.declared.Replied.{Replied}
 use Rattle.panel.specs.declared.Stepped.{Stepped}
 use Rattle.judging.specs.declared.Judged.{Judged}
 use Rattle.judging.specs.declared.Judged.the-variants.{Refused, Given}
@@ -33,7 +32,7 @@ pub record Outcome : Type 0 where
   pub reply : List ℕ
   pub after : Condition
 
--- every operation but judge and show replies `(answer CC)`
+-- every operation but judge, show and total replies `(answer CC)`
 abbrev pub answered : Change → Outcome
 answered ch = record { code = ch .code; reply = answerReply (ch .code); after = ch .after }
 
@@ -66,6 +65,10 @@ showAnswer ts n = cond (ltb n showRoom) (answerReply 16) (showReply ts)
 abbrev pub formShown : Condition → List Token → (n : ℕ) → Outcome
 formShown c ts n = record { code = showCode n; reply = showAnswer ts n; after = c }
 
+-- total: 00 and the stored figure; it changes nothing
+abbrev pub totalShown : Condition → Outcome
+totalShown c = record { code = 0; reply = totalReply (c .total); after = c }
+
 -- by the request of a line with these tokens: 14 where it has no shape
 abbrev pub outcomeBy : Condition → List Token → (n : ℕ) → Kind → Hold → Column → Outcome
 outcomeBy c ts n (ShipLine s) h k = answered (shipOperation c s)
@@ -76,6 +79,7 @@ outcomeBy c ts n (DropLine m) h k = answered (dropOperation c m)
 outcomeBy c ts n JudgeLine h k = verdictGiven c (judgedOf c)
 outcomeBy c ts n ClearLine h k = answered (taken empty)
 outcomeBy c ts n ShowLine h k = formShown c ts n
+outcomeBy c ts n TotalLine h k = totalShown c
 outcomeBy c ts n NoShape h k = answered (refusedWith (kindCode NoShape) c)
 
 unfoldable pub outcomeOf : Condition → List Token → (n : ℕ) → Request → Outcome
@@ -93,12 +97,6 @@ outcomeAfter c line n BadNumber = answered (refusedWith (readingCode BadNumber) 
 unfoldable pub stepOf : Condition → List ℕ → (n : ℕ) → Outcome
 stepOf c line n =
     cond (ltb n leastRoom) (record { code = 15; reply = []; after = c }) (outcomeAfter c line n (readingOf line))
-
--- a code, its reply's length, and in the lent buffer the reply over its front, the bytes behind it as they were
-pub record Replies (code : ℕ) (reply : List ℕ) (r : Replied) (before after : List ℕ) : Type 0 where
-  pub coded : r .code ≡ code
-  pub long : r .len ≡ length reply
-  pub written : after ≡ over reply before
 
 -- what the program hands back is this outcome: condition, code and length, and in the lent buffer the reply over its front, the
 -- bytes behind it as they were

@@ -13,8 +13,8 @@ use Rattle.sign.specs.Sign.{plus, minus}
 use Rattle.whole.specs.Bytes.{bytes}
 use Rattle.whole.specs.Decimal.{Decimal, one, more}
 use Rattle.reply.specs.Written.{over, digits, decimal, figure, twoDigits}
-use Rattle.reply.specs.Replies.{answerReply, refusalReply, verdictReply}
-use Rattle.reply.specs.Shown.{AtFront, FigureShown, CodeShown, AnswerShown, RefusalShown, Writable, VerdictShown}
+use Rattle.reply.specs.Replies.{answerReply, refusalReply, verdictReply, totalReply}
+use Rattle.reply.specs.Shown.{AtFront, FigureShown, CodeShown, AnswerShown, RefusalShown, Writable, VerdictShown, TotalShown}
 
 -- ten to the k-th
 abbrev tenTo : ℕ → ℕ
@@ -75,6 +75,12 @@ verdict-shown code gm diff upper area w =
       areaShown = decimal-shown area (w .areaAbove);
       text = nested (bytes "(verdict ") (twoDigits code) (bytes " ") (figure gm) (bytes " ") (figure diff) (bytes " ") (decimal upper) (bytes " ") (decimal area) (bytes ")\n");
     }
+
+-- ---- totals
+pub total-shown : (w : ℕ) → w < 100000000000000000000 → TotalShown w (totalReply w)
+unfolding totalReply
+total-shown w h =
+    record { figureText = decimal w; figureShown = decimal-shown w h; text = simp append-assoc }
 
 -- ---- the buffer
 pub at-front : (w l : List ℕ) → length w ≤ length l → AtFront w l (over w l)

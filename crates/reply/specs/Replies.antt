@@ -1,4 +1,4 @@
--- Document 01, Codes: the replies. One newline, byte 10, follows each.
+-- Document 01, Codes, and document 02: the replies. One newline, byte 10, follows each.
 use mathlib.Core.List.{List, _∷_, _++_}
 use Prim.Native.Nat.{ℕ}
 use lib.IntN.{ℤ}
@@ -32,3 +32,7 @@ count n = 32 ∷ decimal n
 unfoldable pub verdictReply : (code : ℕ) (gm diff : ℤ) (upper area : ℕ) → List ℕ
 verdictReply code gm diff upper area =
     (((((bytes "(verdict " ++ twoDigits code) ++ field gm) ++ field diff) ++ count upper) ++ count area) ++ tail
+
+-- `(answer 00 W)`, for total
+unfoldable pub totalReply : (w : ℕ) → List ℕ
+totalReply w = (bytes "(answer 00" ++ count w) ++ tail

@@ -1,4 +1,4 @@
--- Document 01, Codes, in its own words: what a reply's text is. Nothing here rests on the definitions by which figures are written;
+-- Document 01, Codes, and document 02, in their own words: what a reply's text is. Nothing here rests on the definitions by which figures are written;
 -- proofs/Shown.antt shows that these give such texts.
 use mathlib.Core.Path.{_≡_}
 use mathlib.Core.List.{List, _∷_, _++_}
@@ -64,3 +64,9 @@ pub record VerdictShown (code : ℕ) (gm diff : ℤ) (upper area : ℕ) (s : Lis
   pub text :
       s ≡ bytes "(verdict " ++ (codeText ++ (bytes " " ++ (gmText ++ (bytes " " ++ (diffText ++ (bytes " " ++ (upperText
       ++ (bytes " " ++ (areaText ++ bytes ")\n")))))))))
+
+-- `(answer 00 W)`, with one newline behind it
+pub record TotalShown (w : ℕ) (s : List ℕ) : Type 0 where
+  pub figureText : List ℕ
+  pub figureShown : Decimal w figureText
+  pub text : s ≡ bytes "(answer 00 " ++ (figureText ++ bytes ")\n")

@@ -4,7 +4,7 @@ ghost use mathlib.Core.List.{_∷_};
 ghost use Prim.Native.Nat.{_+_, _≤_};
 ghost use lib.ListN.{length};
 ghost use Rattle.reply.specs.Written.{over, into, digits, decimal, figure, twoDigits};
-ghost use Rattle.reply.specs.Replies.{codedReply, answerReply, refusalReply, verdictReply};
+ghost use Rattle.reply.specs.Replies.{codedReply, answerReply, refusalReply, verdictReply, totalReply};
 
 // A text over the front of a buffer.
 fn put(out: &mut [u8], w: &[u8]) -> usize
@@ -150,4 +150,15 @@ pub fn verdict(out: &mut [u8], code: u8, gm: i64, diff: i64, upper: u64, area: u
     let e = append_count(out, d, upper);
     let f = append_count(out, e, area);
     append(out, f, b")\n")
+}
+
+// `(answer 00 W)`.
+pub fn total(out: &mut [u8], w: u64) -> usize
+    requires { ⌜ 96 ≤ length (now out) ⌝ }
+    ensures { λ r. ⌜ r ≡ length (totalReply w) ⌝ }
+    ensures { λ r. ⌜ now (out .exit) ≡ over (totalReply w) (now (out .entry)) ⌝ }
+{
+    let a = put(out, b"(answer 00");
+    let b = append_count(out, a, w);
+    append(out, b, b")\n")
 }

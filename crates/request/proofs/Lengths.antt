@@ -10,13 +10,14 @@ use Rattle.record.specs.declared.Part.{Part}
 use Rattle.record.specs.declared.Column.{Column}
 use Rattle.record.specs.Filler.{noSlot, noPart, noHold, padded}
 use Rattle.text.specs.Token.{Token}
-use Rattle.request.specs.declared.Kind.{Kind}
-use Rattle.request.specs.declared.Request.{Request}
+use Rattle.forms.specs.declared.Kind.{Kind}
+use Rattle.forms.specs.declared.Request.{Request}
 use Rattle.parts.specs.Shape.{sectionRecord}
-use Rattle.request.specs.Shape.{holdRecord, holdRequest, requestOf}
+use Rattle.forms.specs.Shape.{holdRecord, holdRequest}
+use Rattle.request.specs.Shape.{requestOf}
 use Rattle.items.proofs.Yields.{Each, Several}
 use Rattle.parts.proofs.Tidy.{inSlot, part-yields}
-use Rattle.request.proofs.Forms.{request-has}
+use Rattle.request.proofs.Lines.{request-has}
 
 -- ---- a list in the first of n places
 module _ {A : Type 0} (d : A) where

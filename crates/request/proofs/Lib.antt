@@ -1,6 +1,4 @@
-pub mod Records
-pub mod Kept
-pub mod Forms
+pub mod Lines
 pub mod Tidy
 pub mod Lengths
 pub mod Shows

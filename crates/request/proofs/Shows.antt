@@ -1,15 +1,17 @@
--- A line read by its form's word is the line as its grammar has it.
+-- A line read by its word is the line as its grammar has it.
 use mathlib.Core.Path.{_≡_, refl, _∙_}
 use mathlib.Core.Bool.{Bool, true, false, cond}
 use mathlib.Core.List.{List, [], _∷_}
 use Prim.Native.Nat.{ℕ}
 use Rattle.text.specs.Token.{Token}
-use Rattle.items.specs.Grammar.{Parsed, got, none, _andThen_, close?, head?, is, whole?}
-use Rattle.request.specs.declared.Kind.the-variants.{ShowLine, NoShape}
-use Rattle.request.specs.declared.Request.{Request}
-use Rattle.request.specs.Shape.{plain, bare?, formWord, formBy, form?, show?, line?, requestOf}
-use Rattle.request.specs.Carried.{carriedRequest}
-use Rattle.request.specs.Word.{FirstWord, plainly, inShow, word?, formOf, around?}
+use Rattle.items.specs.Grammar.{Parsed, got, none, _andThen_, close?, head?, is, named, whole?}
+use Rattle.forms.specs.declared.Kind.the-variants.{ShowLine, TotalLine, NoShape}
+use Rattle.forms.specs.declared.Request.{Request}
+use Rattle.forms.specs.Shape.{plain, bare?, formWord, formBy, form?}
+use Rattle.forms.specs.Carried.{carriedRequest}
+use Rattle.request.specs.declared.LineWord.{LineWord}
+use Rattle.request.specs.Shape.{show?, line?, requestOf}
+use Rattle.request.specs.Word.{FirstWord, plainly, inShow, word?, lineWord, lineBy, formOf, around?}
 
 as-read : (r : Parsed Request) → r ≡ (r andThen around? false)
 as-read (got a ts) = refl
@@ -23,16 +25,28 @@ inside : (h : Parsed (List ℕ)) → (h andThen (λ w vs. formBy (formWord w) vs
 inside (got w vs) = refl
 inside none = refl
 
-by-word : (x : Bool) (r : List ℕ) (us : List Token) → cond x ((head? us andThen λ w vs. formBy (formWord w) vs) andThen λ r us. bare? ShowLine us) (formBy (formWord r) us) ≡ (cond x (head? us andThen λ w vs. got (inShow w) vs) (got (plainly r) us)) andThen then?
+-- a line that is no show, by its word
+abbrev plain? : List ℕ → List Token → Parsed Request
+plain? r us = cond (is r "total") (bare? TotalLine us) (formBy (formWord r) us)
+
+chosen : (x : Bool) (v w : LineWord) (us : List Token) → cond x (lineBy v us) (lineBy w us) ≡ lineBy (cond x v w) us
+chosen true v w us = refl
+chosen false v w us = refl
+
+no-show : (r : List ℕ) (us : List Token) → plain? r us ≡ lineBy (lineWord false r) us
+unfolding named
+no-show r us = chosen (is r "total") _ _ us
+
+by-word : (x : Bool) (r : List ℕ) (us : List Token) → cond x ((head? us andThen λ w vs. formBy (formWord w) vs) andThen λ r us. bare? ShowLine us) (plain? r us) ≡ (cond x (head? us andThen λ w vs. got (inShow w) vs) (got (plainly r) us)) andThen then?
 by-word true r us = inside (head? us)
-by-word false r us = as-read (formBy (formWord r) us)
+by-word false r us = no-show r us ∙ as-read (lineBy (lineWord false r) us)
 
 pub line-by-word : (ts : List Token) → line? ts ≡ (word? ts andThen then?)
 unfolding line? word? show? form?
 line-by-word ts = by (head? ts)
   where
     by : (h : Parsed (List ℕ)) →
-        (h andThen λ r us. cond (is r "show") ((head? us andThen λ w vs. formBy (formWord w) vs) andThen λ r us. bare? ShowLine us) (formBy (formWord r) us))
+        (h andThen λ r us. cond (is r "show") ((head? us andThen λ w vs. formBy (formWord w) vs) andThen λ r us. bare? ShowLine us) (plain? r us))
         ≡ (h andThen λ r us. cond (is r "show") (head? us andThen λ w vs. got (inShow w) vs) (got (plainly r) us)) andThen then?
     by (got r us) = by-word (is r "show") r us
     by none = refl

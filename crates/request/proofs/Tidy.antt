@@ -18,12 +18,13 @@ use Rattle.items.proofs.Kept.{kept-within}
 use Rattle.items.proofs.Yields.{Each, Several}
 use Rattle.parts.specs.Carried.{carriedPart}
 use Rattle.parts.proofs.Tidy.{kept-padded, padded-front, kept-each, KeptPart, part-tidy}
-use Rattle.request.specs.declared.Kind.{Kind}
-use Rattle.request.specs.declared.Kind.the-variants.{HoldLine}
-use Rattle.request.specs.declared.Request.{Request}
-use Rattle.request.specs.Shape.{holdRecord, holdRequest, requestOf}
-use Rattle.request.specs.Carried.{carriedHold}
-use Rattle.request.proofs.Forms.{request-has}
+use Rattle.forms.specs.declared.Kind.{Kind}
+use Rattle.forms.specs.declared.Kind.the-variants.{HoldLine}
+use Rattle.forms.specs.declared.Request.{Request}
+use Rattle.forms.specs.Shape.{holdRecord, holdRequest}
+use Rattle.request.specs.Shape.{requestOf}
+use Rattle.forms.specs.Carried.{carriedHold}
+use Rattle.request.proofs.Lines.{request-has}
 
 -- ---- a hold of such parts
 hold-stays : (m : Mode) (factor : ℕ) (ps : List Part) → Each (KeptPart m) ps → holdLimits (holdRecord m factor ps) ≡ true → carriedHold (holdRecord m factor ps) ≡ holdRecord m factor ps

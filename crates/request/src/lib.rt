@@ -1,15 +1,10 @@
-// The shapes: which form a line is, and its record (code 14).
-use items::Item;
+// The shapes of lines: which form a line is or shows, and its record (code 14).
+use forms::Form;
+use forms::FormWord;
+use forms::Kind;
+use forms::Request;
 use items::Place;
-use items::Size;
 use items::Span;
-use record::Column;
-use record::Head;
-use record::Hold;
-use record::Load;
-use record::Mode;
-use record::Rule;
-use record::Ship;
 ghost use mathlib.Core.Path.{_≡_};
 ghost use Prim.Native.Nat.{_≤_};
 ghost use lib.ListN.{length, drop};
@@ -17,59 +12,11 @@ ghost use Rattle.text.specs.Token.{tokens};
 ghost use Rattle.items.specs.Carried.{carry};
 ghost use Rattle.items.specs.Grammar.{whole?};
 ghost use Rattle.items.specs.Places.{Ends};
-ghost use Rattle.request.specs.Shape.{ruleNamed, ruleOf, ship?, column?, load?, modeNamed, parts?, hold?, drop?, bare?, formWord, formBy, requestOf};
-ghost use Rattle.request.specs.Shape.{plain as Shape·plain};
-ghost use Rattle.request.specs.Carried.{carriedRequest};
+ghost use Rattle.forms.specs.Shape.{plain as Shape·plain, bare?};
+ghost use Rattle.forms.specs.Carried.{carriedRequest};
+ghost use Rattle.request.specs.Shape.{requestOf};
 ghost use Rattle.request.specs.Word.{word?, WordIs};
-
-// Which form a line is. A hold's and a column's record stand beside it: an enum that holds an array is not covered by the
-// prover's walk.
-pub enum Kind {
-    ShipLine(Ship),
-    ColumnLine,
-    LoadLine(Load),
-    HoldLine(u32),
-    DropLine(u32),
-    JudgeLine,
-    ClearLine,
-    ShowLine,
-    NoShape,
-}
-
-pub struct Request {
-    pub kind: Kind,
-    pub hold: Hold,
-    pub column: Column,
-}
-
-// The word of a rule.
-pub enum RuleWord {
-    NewWord,
-    OldWord,
-}
-
-pub enum RuleNamed {
-    Under(RuleWord),
-    NoRule,
-}
-
-// A mode, where its word was read.
-pub enum ModeNamed {
-    As(Mode),
-    NoMode,
-}
-
-// The word of a form.
-pub enum FormWord {
-    ShipWord,
-    ColumnWord,
-    LoadWord,
-    HoldWord,
-    DropWord,
-    JudgeWord,
-    ClearWord,
-    NoWord,
-}
+ghost use Rattle.request.specs.Word.{lineWord as Word·lineWord, lineBy as Word·lineBy};
 
 // The word of a line's form, from a place to a place, and whether the form is inside a show.
 pub enum Word {
@@ -77,269 +24,10 @@ pub enum Word {
     NoForm,
 }
 
-// A form's request, and the place behind the form.
-pub struct Form {
-    pub request: Request,
-    pub end: Place,
-}
-
-// ---- ships, loads, drops, columns
-
-// A request without hold or column.
-pub fn plain(kind: Kind) -> Request
-    ensures { λ r. ⌜ r ≡ Shape·plain kind ⌝ }
-{
-    Request {
-        kind,
-        hold: record::no_hold(),
-        column: record::no_column(),
-    }
-}
-
-// Where no form was read.
-fn no_form() -> Form
-    ensures { λ r. ⌜ r .request ≡ Shape·plain Kind.NoShape ⌝ }
-    ensures { λ r. ⌜ r .end ≡ Place.Nowhere ⌝ }
-{
-    Form {
-        request: plain(Kind::NoShape),
-        end: Place::Nowhere,
-    }
-}
-
-// The word of a rule.
-fn rule_named(word: &[u8]) -> RuleNamed
-    ensures { λ r. ⌜ r ≡ ruleNamed (now (word .entry)) ⌝ }
-{
-    if text::same(word, b"new") {
-        return RuleNamed::Under(RuleWord::NewWord);
-    }
-    if text::same(word, b"old") {
-        return RuleNamed::Under(RuleWord::OldWord);
-    }
-    RuleNamed::NoRule
-}
-
-// The rule that its word and its edge make.
-fn rule_of(word: RuleWord, edge: u16) -> Rule
-    ensures { λ r. ⌜ r ≡ ruleOf word edge ⌝ }
-{
-    match word {
-        RuleWord::NewWord => Rule::New(edge),
-        RuleWord::OldWord => Rule::Old(edge),
-    }
-}
-
-// `RULE EDGE FLOOD)`
-fn ship_at(s: &[u8], at: usize) -> Form
-    requires { ⌜ at ≤ length (now s) ⌝ }
-    ensures { λ r. ⌜ Ends (carry carriedRequest (ship? (tokens (drop at (now (s .entry)))))) (now (s .entry)) (r .request) (r .end) ⌝ }
-{
-    let Span::From(a, q) = items::span_at(s, at) else {
-        return no_form();
-    };
-    let RuleNamed::Under(word) = rule_named(text::run_of(s, a, q)) else {
-        return no_form();
-    };
-    let t = items::sizes_at(s, q, 2);
-    let end = t.end;
-    let v = t.values;
-    let ship = Ship {
-        rule: rule_of(word, v[0]),
-        flood: v[1],
-    };
-    Form {
-        request: plain(Kind::ShipLine(ship)),
-        end,
-    }
-}
-
-// `D KG FS)`
-fn load_at(s: &[u8], at: usize) -> Form
-    requires { ⌜ at ≤ length (now s) ⌝ }
-    ensures { λ r. ⌜ Ends (carry carriedRequest (load? (tokens (drop at (now (s .entry)))))) (now (s .entry)) (r .request) (r .end) ⌝ }
-{
-    let Item::Value(d, q) = items::number_at(s, at) else {
-        return no_form();
-    };
-    let t = items::sizes_at(s, q, 2);
-    let end = t.end;
-    let v = t.values;
-    let load = Load {
-        d,
-        kg: v[0],
-        fs: v[1],
-    };
-    Form {
-        request: plain(Kind::LoadLine(load)),
-        end,
-    }
-}
-
-// `N)`
-fn drop_at(s: &[u8], at: usize) -> Form
-    requires { ⌜ at ≤ length (now s) ⌝ }
-    ensures { λ r. ⌜ Ends (carry carriedRequest (drop? (tokens (drop at (now (s .entry)))))) (now (s .entry)) (r .request) (r .end) ⌝ }
-{
-    let Item::Value(n, q) = items::number_at(s, at) else {
-        return no_form();
-    };
-    let end = items::close_at(s, q);
-    Form {
-        request: plain(Kind::DropLine(n)),
-        end,
-    }
-}
-
-// `)`
-fn bare_at(s: &[u8], at: usize, kind: Kind) -> Form
-    requires { ⌜ at ≤ length (now s) ⌝ }
-    ensures { λ r. ⌜ Ends (bare? kind (tokens (drop at (now (s .entry))))) (now (s .entry)) (r .request) (r .end) ⌝ }
-{
-    let end = items::close_at(s, at);
-    Form {
-        request: plain(kind),
-        end,
-    }
-}
-
-// `D KM (K .. K))`
-fn column_at(s: &[u8], at: usize) -> Form
-    requires { ⌜ at ≤ length (now s) ⌝ }
-    ensures { λ r. ⌜ Ends (carry carriedRequest (column? (tokens (drop at (now (s .entry)))))) (now (s .entry)) (r .request) (r .end) ⌝ }
-{
-    let Item::Value(d, p1) = items::number_at(s, at) else {
-        return no_form();
-    };
-    let Size::Kept(km, p2) = items::size_at(s, p1) else {
-        return no_form();
-    };
-    let Place::At(p3) = items::open_at(s, p2) else {
-        return no_form();
-    };
-    let t = items::sizes_at(s, p3, 10);
-    let last = t.end;
-    let Place::At(p4) = last else {
-        return no_form();
-    };
-    let kn = t.values;
-    let end = items::close_at(s, p4);
-    let request = Request {
-        kind: Kind::ColumnLine,
-        hold: record::no_hold(),
-        column: Column { d, km, kn },
-    };
-    Form { request, end }
-}
-
-// ---- a hold
-
-// `SF PART ..)`
-fn parts_at(s: &[u8], at: usize, n: u32, mode: Mode) -> Form
-    requires { ⌜ at ≤ length (now s) ⌝ }
-    ensures { λ r. ⌜ Ends (carry carriedRequest (parts? n mode (tokens (drop at (now (s .entry)))))) (now (s .entry)) (r .request) (r .end) ⌝ }
-{
-    let Size::Kept(factor, q) = items::size_at(s, at) else {
-        return no_form();
-    };
-    let t = parts::part_list_at(s, q, mode);
-    let count = t.count;
-    if count == 0 {
-        return no_form();
-    }
-    let end = t.end;
-    let parts = t.parts;
-    let head = Head {
-        mode,
-        factor,
-        count,
-    };
-    let request = Request {
-        kind: Kind::HoldLine(n),
-        hold: Hold { head, parts },
-        column: record::no_column(),
-    };
-    Form { request, end }
-}
-
-// The word of a mode.
-fn mode_named(word: &[u8]) -> ModeNamed
-    ensures { λ r. ⌜ r ≡ modeNamed (now (word .entry)) ⌝ }
-{
-    if text::same(word, b"trimmed") {
-        return ModeNamed::As(Mode::Trimmed);
-    }
-    if text::same(word, b"voided") {
-        return ModeNamed::As(Mode::Voided);
-    }
-    if text::same(word, b"partial") {
-        return ModeNamed::As(Mode::Partial);
-    }
-    ModeNamed::NoMode
-}
-
-// `N MODE SF PART ..)`
-fn hold_at(s: &[u8], at: usize) -> Form
-    requires { ⌜ at ≤ length (now s) ⌝ }
-    ensures { λ r. ⌜ Ends (carry carriedRequest (hold? (tokens (drop at (now (s .entry)))))) (now (s .entry)) (r .request) (r .end) ⌝ }
-{
-    let Item::Value(n, p) = items::number_at(s, at) else {
-        return no_form();
-    };
-    let Span::From(a, q) = items::span_at(s, p) else {
-        return no_form();
-    };
-    let ModeNamed::As(mode) = mode_named(text::run_of(s, a, q)) else {
-        return no_form();
-    };
-    parts_at(s, q, n, mode)
-}
-
-// ---- a line
-
-// The word of a form.
-fn form_word(word: &[u8]) -> FormWord
-    ensures { λ r. ⌜ r ≡ formWord (now (word .entry)) ⌝ }
-{
-    if text::same(word, b"ship") {
-        return FormWord::ShipWord;
-    }
-    if text::same(word, b"column") {
-        return FormWord::ColumnWord;
-    }
-    if text::same(word, b"load") {
-        return FormWord::LoadWord;
-    }
-    if text::same(word, b"hold") {
-        return FormWord::HoldWord;
-    }
-    if text::same(word, b"drop") {
-        return FormWord::DropWord;
-    }
-    if text::same(word, b"judge") {
-        return FormWord::JudgeWord;
-    }
-    if text::same(word, b"clear") {
-        return FormWord::ClearWord;
-    }
-    FormWord::NoWord
-}
-
-// What stands behind a form's word.
-fn form_by(s: &[u8], at: usize, word: FormWord) -> Form
-    requires { ⌜ at ≤ length (now s) ⌝ }
-    ensures { λ r. ⌜ Ends (carry carriedRequest (formBy word (tokens (drop at (now (s .entry)))))) (now (s .entry)) (r .request) (r .end) ⌝ }
-{
-    match word {
-        FormWord::ShipWord => ship_at(s, at),
-        FormWord::ColumnWord => column_at(s, at),
-        FormWord::LoadWord => load_at(s, at),
-        FormWord::HoldWord => hold_at(s, at),
-        FormWord::DropWord => drop_at(s, at),
-        FormWord::JudgeWord => bare_at(s, at, Kind::JudgeLine),
-        FormWord::ClearWord => bare_at(s, at, Kind::ClearLine),
-        FormWord::NoWord => no_form(),
-    }
+// A line by its word: one of document 01's forms, or one that no show takes.
+pub enum LineWord {
+    OfForm(FormWord),
+    TotalWord,
 }
 
 // The word of a line's form; in a show line, that of the form inside.
@@ -358,31 +46,56 @@ fn first_word(s: &[u8]) -> Word
     Word::Of(a, q, false)
 }
 
+// A line by its word. Inside a show stands only a form of document 01.
+fn line_word(word: &[u8], shown: bool) -> LineWord
+    ensures { λ r. ⌜ r ≡ Word·lineWord shown (now (word .entry)) ⌝ }
+{
+    let form = forms::form_word(word);
+    if shown {
+        return LineWord::OfForm(form);
+    }
+    if text::same(word, b"total") {
+        return LineWord::TotalWord;
+    }
+    LineWord::OfForm(form)
+}
+
+// What stands behind a line's word.
+fn line_by(s: &[u8], at: usize, word: LineWord) -> Form
+    requires { ⌜ at ≤ length (now s) ⌝ }
+    ensures { λ r. ⌜ Ends (carry carriedRequest (Word·lineBy word (tokens (drop at (now (s .entry)))))) (now (s .entry)) (r .request) (r .end) ⌝ }
+{
+    match word {
+        LineWord::OfForm(form) => forms::form_by(s, at, form),
+        LineWord::TotalWord => forms::bare_at(s, at, Kind::TotalLine),
+    }
+}
+
 // The request of a show line, from behind the form inside it: the show's own bracket must follow, and end the line. The form's record is not kept.
 fn show_request(s: &[u8], at: usize) -> Request
     requires { ⌜ at ≤ length (now s) ⌝ }
     ensures { λ r. ⌜ r ≡ whole? (bare? Kind.ShowLine (tokens (drop at (now (s .entry))))) (Shape·plain Kind.NoShape) ⌝ }
 {
     let Place::At(q) = items::close_at(s, at) else {
-        return plain(Kind::NoShape);
+        return forms::plain(Kind::NoShape);
     };
     if items::ends_at(s, q) {
-        return plain(Kind::ShowLine);
+        return forms::plain(Kind::ShowLine);
     }
-    plain(Kind::NoShape)
+    forms::plain(Kind::NoShape)
 }
 
-// The request of a line: the form that it is, or shows, with nothing behind it. One call reads the form in both, since copies of it are large.
+// The request of a line: what it is, or shows, with nothing behind it. One call reads the form in both, since copies of it are large.
 pub fn request_of(line: &[u8]) -> Request
     ensures { λ r. ⌜ r ≡ carriedRequest (requestOf (tokens (now (line .entry)))) ⌝ }
 {
     let Word::Of(a, p, shown) = first_word(line) else {
-        return plain(Kind::NoShape);
+        return forms::plain(Kind::NoShape);
     };
-    let t = form_by(line, p, form_word(text::run_of(line, a, p)));
+    let t = line_by(line, p, line_word(text::run_of(line, a, p), shown));
     let end = t.end;
     let Place::At(q) = end else {
-        return plain(Kind::NoShape);
+        return forms::plain(Kind::NoShape);
     };
     if shown {
         return show_request(line, q);
@@ -390,5 +103,5 @@ pub fn request_of(line: &[u8]) -> Request
     if items::ends_at(line, q) {
         return t.request;
     }
-    plain(Kind::NoShape)
+    forms::plain(Kind::NoShape)
 }

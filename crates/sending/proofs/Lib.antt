@@ -4,3 +4,4 @@ pub mod Lines
 pub mod Printed
 pub mod Refilled
 pub mod Sending
+pub mod Weighing

@@ -17,8 +17,8 @@ use Rattle.spelling.specs.Spelling.{written, parted, spaceIf, spell, proper}
 use Rattle.spelling.proofs.Reading.{tokens-spell}
 use Rattle.items.specs.Grammar.{got}
 use Rattle.items.proofs.Yields.{Each}
-use Rattle.request.specs.declared.Request.{Request}
-use Rattle.request.specs.Shape.{form?}
+use Rattle.forms.specs.declared.Request.{Request}
+use Rattle.forms.specs.Shape.{form?}
 use Rattle.showing.proofs.Forms.{form-request}
 use Rattle.showing.proofs.Laws.{form-sound}
 use Rattle.condition.specs.declared.Condition.{Condition}

@@ -26,9 +26,9 @@ use Rattle.text.specs.Token.{Token, opened, closed, same}
 use Rattle.items.specs.Grammar.{Parsed, got, none, open?, close?, run?, head?, named, number?, numbers?, lastNumbers?, items?, several?}
 use Rattle.items.proofs.Yields.{Each, Several}
 use Rattle.parts.specs.Shape.{sectionRecord, cell?, section?, slack?, body?, part?}
-use Rattle.request.specs.declared.ModeNamed.the-variants.{As}
-use Rattle.request.specs.declared.Kind.the-variants.{ShipLine, LoadLine}
-use Rattle.request.specs.Shape.{plain, columnRequest, holdRequest, ship?, column?, load?, modeNamed, parts?, hold?, form?}
+use Rattle.forms.specs.declared.ModeNamed.the-variants.{As}
+use Rattle.forms.specs.declared.Kind.the-variants.{ShipLine, LoadLine}
+use Rattle.forms.specs.Shape.{plain, columnRequest, holdRequest, ship?, column?, load?, modeNamed, parts?, hold?, form?}
 use Rattle.sending.specs.Printed.{word, number, numbers, form, eachForm, ruleWord, shipTokens, loadTokens, columnTokens, cellTokens, sectionItems, partItems, partTokens, modeWord, holdTokens}
 use Rattle.sending.proofs.Decimals.{decimal-is-read-back}
 use Rattle.sending.proofs.Lines.{Fine, fine-none, fine-more, fine-token, fine-append, fine-brackets, fine-form, Small, fine-number, fine-numbers, Asks}

@@ -22,7 +22,7 @@ use Rattle.items.proofs.Kept.{same-all}
 use Rattle.items.proofs.Yields.{Each, Several}
 use Rattle.parts.specs.Shape.{sectionRecord, slackRecord}
 use Rattle.parts.proofs.Tidy.{padded-front, section-cells}
-use Rattle.request.specs.Shape.{holdRecord}
+use Rattle.forms.specs.Shape.{holdRecord}
 use Rattle.condition.specs.Condition.{isHeld}
 use Rattle.operations.proofs.Effects.{HoldPassed}
 use Rattle.sending.specs.Sending.{SamePart, SameHold}

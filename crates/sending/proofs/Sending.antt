@@ -18,6 +18,7 @@ use Rattle.record.specs.Held.{held, partsOf}
 use Rattle.columns.specs.declared.Added.the-variants.{Taken}
 use Rattle.columns.specs.Columns.{columnAnswer, withColumn}
 use Rattle.limits.specs.Limits.{shipLimits, loadLimits}
+use Rattle.grain.specs.Sum.{weightMoment}
 use Rattle.limits.proofs.Ranges.{ship-range, load-range, column-range, hold-range}
 use Rattle.text.specs.Token.{Token}
 use Rattle.items.proofs.Yields.{Each}
@@ -54,7 +55,7 @@ module _ (lent : ℕ) (room : 96 ≤ lent) (c : Condition) where
       line-does (print-column k (column-range k .0 (taken-is (held (c .columns)) k e .limits)) n) c lent room
       ∙ ap answered (column-taken c k e)
 
-  hold-does : (n : ℕ) (h : Hold) → GoodHold n h → stepOf c (spell (holdTokens n h)) lent ≡ answered (taken (withHold c n (refilled h)))
+  hold-does : (n : ℕ) (h : Hold) → GoodHold n h → stepOf c (spell (holdTokens n h)) lent ≡ answered (taken (withHold c n (refilled h) (weightMoment (refilled h))))
   unfolding outcomeOf
   hold-does n h g =
       line-does (print-hold n h g) c lent room ∙ ap answered (hold-taken c n (refilled h) (refilled-passes n h g))
@@ -83,45 +84,47 @@ abbrev withAll : Columns → List Column → Columns
 withAll cs [] = cs
 withAll cs (k ∷ ks) = withAll (withColumn cs k) ks
 
--- on the way from the empty condition: the ship of c or none, its load or none, these columns and holds
-abbrev on : Condition → (shipped loaded : Bool) → Columns → List Hold → Condition
-on c x y cs hs =
-    record { shipped = x; ship = cond x (c .ship) noShip; loaded = y; load = cond y (c .load) noLoad; columns = cs; holds = hs }
+-- on the way from the empty condition: the ship of c or none, its load or none, these columns, holds and figure
+abbrev on : Condition → (shipped loaded : Bool) → Columns → List Hold → (figure : ℕ) → Condition
+on c x y cs hs t =
+    record { shipped = x; ship = cond x (c .ship) noShip; loaded = y; load = cond y (c .load) noLoad; columns = cs; holds = hs; total = t }
 
 module _ (lent : ℕ) (room : 96 ≤ lent) (c : Condition) where
-  ship-leads : (x : Bool) → (x ≡ true → shipLimits (c .ship) ≡ true) → Leads lent empty (formIf x (shipTokens (c .ship))) (on c x false noColumns (replicate 16 noHold))
+  ship-leads : (x : Bool) → (x ≡ true → shipLimits (c .ship) ≡ true) → Leads lent empty (formIf x (shipTokens (c .ship))) (on c x false noColumns (replicate 16 noHold) 0)
   ship-leads true p = one (ship-does lent room empty (c .ship) (p refl)) none
   ship-leads false p = none
 
   module _ (x : Bool) where
     columns-lead : (cs : Columns) (ks : List Column) (hs : List Hold) → Fitting cs → ColumnsTaken (withColumns empty cs) ks → Each (λ k. length (k .kn) ≡ 10) ks →
-        Leads lent (on c x false cs hs) (map columnTokens ks) (on c x false (withAll cs ks) hs) × (held (withAll cs ks) ≡ held cs ++ ks)
+        Leads lent (on c x false cs hs 0) (map columnTokens ks) (on c x false (withAll cs ks) hs 0) × (held (withAll cs ks) ≡ held cs ++ ks)
     columns-lead cs [] hs f t n = (none, sym (append-nil (held cs)))
     columns-lead cs (k ∷ ks) hs f t n =
         let e = column-passed (withColumns empty cs) k (t .0) in
         let r = columns-lead (withColumn cs k) ks hs (fitting-more cs k f e) (rw (← column-effect (withColumns empty cs) k (t .0)) at (t .1)) (n .1) in
-        (one (column-does lent room (on c x false cs hs) k (n .0) e) (r .0), r .1 ∙ rw (held-more cs k f e) (append-snoc (held cs) k ks))
+        (one (column-does lent room (on c x false cs hs 0) k (n .0) e) (r .0), r .1 ∙ rw (held-more cs k f e) (append-snoc (held cs) k ks))
 
-    load-leads : (y : Bool) (cs : Columns) (hs : List Hold) → (y ≡ true → loadLimits (c .load) ≡ true) → Leads lent (on c x false cs hs) (formIf y (loadTokens (c .load))) (on c x y cs hs)
-    load-leads true cs hs p = one (load-does lent room (on c x false cs hs) (c .load) (p refl)) none
+    load-leads : (y : Bool) (cs : Columns) (hs : List Hold) → (y ≡ true → loadLimits (c .load) ≡ true) → Leads lent (on c x false cs hs 0) (formIf y (loadTokens (c .load))) (on c x y cs hs 0)
+    load-leads true cs hs p = one (load-does lent room (on c x false cs hs 0) (c .load) (p refl)) none
     load-leads false cs hs p = none
 
+    -- what the figure is on the way is of no account: it is true in every condition that lines can reach
     module _ (y : Bool) (cs : Columns) where
-      hold-leads : (here : Bool) (m : ℕ) (done rest : List Hold) (h : Hold) → length done ≡ m → (here ≡ true → GoodHold (suc m) h) →
-          Leads lent (on c x y cs (done ++ noHold ∷ rest)) (formIf here (holdTokens (suc m) h)) (on c x y cs (done ++ cond here (refilled h) noHold ∷ rest))
-      hold-leads true m done rest h n g =
-          one (rw (set-at done noHold rest (refilled h) (suc m - 1) (omega arith)) at (hold-does lent room (on c x y cs (done ++ noHold ∷ rest)) (suc m) h (g refl))) none
-      hold-leads false m done rest h n g = none
+      hold-leads : (here : Bool) (m : ℕ) (done rest : List Hold) (h : Hold) (t : ℕ) → length done ≡ m → (here ≡ true → GoodHold (suc m) h) →
+          (u : ℕ) × Leads lent (on c x y cs (done ++ noHold ∷ rest) t) (formIf here (holdTokens (suc m) h)) (on c x y cs (done ++ cond here (refilled h) noHold ∷ rest) u)
+      hold-leads true m done rest h t n g =
+          let put = hold-does lent room (on c x y cs (done ++ noHold ∷ rest) t) (suc m) h (g refl) in
+          (_, one (rw (set-at done noHold rest (refilled h) (suc m - 1) (omega arith)) at put) none)
+      hold-leads false m done rest h t n g = (t, none)
 
-      holds-lead : (m : ℕ) (done hs : List Hold) → length done ≡ m →
+      holds-lead : (m : ℕ) (done hs : List Hold) (t : ℕ) → length done ≡ m →
           ((i n : ℕ) → m + i + 1 ≡ n → i < length hs → isHeld (getD hs i noHold) ≡ true → GoodHold n (getD hs i noHold)) →
-          Leads lent (on c x y cs (done ++ replicate (length hs) noHold)) (holdForms (suc m) hs) (on c x y cs (done ++ map refilledPlace hs))
+          (u : ℕ) × Leads lent (on c x y cs (done ++ replicate (length hs) noHold) t) (holdForms (suc m) hs) (on c x y cs (done ++ map refilledPlace hs) u)
       unfolding holdForms
-      holds-lead m done [] n g = none
-      holds-lead m done (h ∷ hs) n g =
-          let behind = holds-lead (suc m) (done ++ refilledPlace h ∷ []) hs (length-append done (refilledPlace h ∷ []) ∙ omega arith) (λ i k e l. g (suc i) k (omega arith) (omega arith)) in
-          leads-then (hold-leads (isHeld h) m done (replicate (length hs) noHold) h n (g 0 (suc m) (omega arith) (omega arith)))
-          (rw (append-snoc done (refilledPlace h) (replicate (length hs) noHold), append-snoc done (refilledPlace h) (map refilledPlace hs)) at behind)
+      holds-lead m done [] t n g = (t, none)
+      holds-lead m done (h ∷ hs) t n g =
+          let here = hold-leads (isHeld h) m done (replicate (length hs) noHold) h t n (g 0 (suc m) (omega arith) (omega arith)) in
+          let behind = holds-lead (suc m) (done ++ refilledPlace h ∷ []) hs (here .0) (length-append done (refilledPlace h ∷ []) ∙ omega arith) (λ i k e l. g (suc i) k (omega arith) (omega arith)) in
+          (behind .0, leads-then (here .1) (rw (append-snoc done (refilledPlace h) (replicate (length hs) noHold), append-snoc done (refilledPlace h) (map refilledPlace hs)) at (behind .1)))
 
 -- ---- what a condition within its limits gives
 module _ (c : Condition) (w : Within c) where
@@ -165,8 +168,8 @@ records-can-be-sent c lent w room =
     let ship = ship-leads lent room c x (λ e. ship-passed empty (c .ship) (w .ship e)) in
     let columns = columns-lead lent room c x noColumns ks hs (record { places = refl; count = omega arith }) (w .columns) (tens c w) in
     let load = load-leads lent room c x y cs hs (λ e. load-passed empty (c .load) (w .load e)) in
-    let holds : Leads lent (on c x y cs hs) (holdForms 1 (c .holds)) (on c x y cs (map refilledPlace (c .holds))) =
-    rw (w .places .holdPlaces) at (holds-lead lent room c x y cs 0 [] (c .holds) refl (good c w)) in
+    let put = holds-lead lent room c x y cs 0 [] (c .holds) 0 refl (good c w) in
+    let holds : Leads lent (on c x y cs hs 0) (holdForms 1 (c .holds)) (on c x y cs (map refilledPlace (c .holds)) (put .0)) = rw (w .places .holdPlaces) at (put .1) in
     let all = leads-then ship (leads-then (columns .0) (leads-then load holds)) in (
       leads-codes all,
       rw (leads-after all)

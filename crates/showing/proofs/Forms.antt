@@ -10,17 +10,18 @@ use Rattle.text.proofs.Runs.{same-true}
 use Rattle.items.specs.Grammar.{Parsed, got, none, _andThen_, open?, close?, run?, head?, is, named, number?, lastNumbers?, several?, whole?}
 use Rattle.items.proofs.Yields.{Yields, yields, nothing, yields-then}
 use Rattle.parts.specs.Shape.{part?}
-use Rattle.request.specs.declared.RuleNamed.{RuleNamed}
-use Rattle.request.specs.declared.RuleNamed.the-variants.{Under, NoRule}
-use Rattle.request.specs.declared.ModeNamed.{ModeNamed}
-use Rattle.request.specs.declared.ModeNamed.the-variants.{As, NoMode}
-use Rattle.request.specs.declared.FormWord.{FormWord}
-use Rattle.request.specs.declared.FormWord.the-variants.{ShipWord, ColumnWord, LoadWord, HoldWord, DropWord, JudgeWord, ClearWord, NoWord}
-use Rattle.request.specs.declared.Kind.{Kind}
-use Rattle.request.specs.declared.Kind.the-variants.{ShowLine, NoShape}
-use Rattle.request.specs.declared.Request.{Request}
-use Rattle.request.specs.Shape.{plain, ruleNamed, shipBy, ship?, column?, load?, modeNamed, partsBy, parts?, hold?, drop?, bare?, formWord, formBy, form?, show?, line?, requestOf}
-use Rattle.showing.specs.Laws.{OfDocument01, ship, column, load, hold, drop, judge, clear, ShowOf}
+use Rattle.forms.specs.declared.RuleNamed.{RuleNamed}
+use Rattle.forms.specs.declared.RuleNamed.the-variants.{Under, NoRule}
+use Rattle.forms.specs.declared.ModeNamed.{ModeNamed}
+use Rattle.forms.specs.declared.ModeNamed.the-variants.{As, NoMode}
+use Rattle.forms.specs.declared.FormWord.{FormWord}
+use Rattle.forms.specs.declared.FormWord.the-variants.{ShipWord, ColumnWord, LoadWord, HoldWord, DropWord, JudgeWord, ClearWord, NoWord}
+use Rattle.forms.specs.declared.Kind.{Kind}
+use Rattle.forms.specs.declared.Kind.the-variants.{ShipLine, ColumnLine, LoadLine, HoldLine, DropLine, JudgeLine, ClearLine, ShowLine, TotalLine, NoShape}
+use Rattle.forms.specs.declared.Request.{Request}
+use Rattle.forms.specs.Shape.{plain, ruleNamed, shipBy, ship?, column?, load?, modeNamed, partsBy, parts?, hold?, drop?, bare?, formWord, formBy, form?}
+use Rattle.request.specs.Shape.{show?, line?, requestOf}
+use Rattle.showing.specs.Laws.{OfDocument01, ship, column, load, hold, drop, judge, clear, ShowOf, TakenAsTotal}
 use Rattle.showing.proofs.Framing.{clash, form-frames}
 
 -- ---- what a form yields
@@ -49,31 +50,49 @@ form-by JudgeWord ts = yields-then (close? ts) (λ u us. yields judge)
 form-by ClearWord ts = yields-then (close? ts) (λ u us. yields clear)
 form-by NoWord ts = nothing
 
-yielded : {r : Parsed Request} (a : Request) (us : List Token) → Yields Of01 r → r ≡ got a us → Of01 a
-yielded a us (yields {a = b} p) e = let t : b ≡ a = cc in rw (← t) p
-yielded a us nothing e = let z : _≡_ {A = ℕ} 0 1 = cc in absurd (omega arith)
+yielded : (P : Request → Type 0) {r : Parsed Request} (a : Request) (us : List Token) → Yields P r → r ≡ got a us → P a
+yielded P a us (yields {a = b} p) e = let t : b ≡ a = cc in rw (← t) p
+yielded P a us nothing e = let z : _≡_ {A = ℕ} 0 1 = cc in absurd (omega arith)
 
 form-kind : (ts : List Token) (a : Request) (us : List Token) → form? ts ≡ got a us → Of01 a
 unfolding form?
-form-kind ts a us e = yielded a us (yields-then (head? ts) (λ r ws. form-by (formWord r) ws)) e
+form-kind ts a us e = yielded Of01 a us (yields-then (head? ts) (λ r ws. form-by (formWord r) ws)) e
 
--- none of these is a show, nor without a shape
-unlike : {k : Kind} → (k ≡ ShowLine → _≡_ {A = ℕ} 0 1) → (k ≡ NoShape → _≡_ {A = ℕ} 0 1) → (k ≡ ShowLine → ⊥) × (k ≡ NoShape → ⊥)
-unlike f g = (λ e. omega (arith, f e), λ e. omega (arith, g e))
+-- the kinds in four: one of these, a show, one that no show takes, none
+abbrev sortOf : Kind → ℕ
+sortOf (ShipLine s) = 0
+sortOf ColumnLine = 0
+sortOf (LoadLine l) = 0
+sortOf (HoldLine n) = 0
+sortOf (DropLine n) = 0
+sortOf JudgeLine = 0
+sortOf ClearLine = 0
+sortOf ShowLine = 1
+sortOf TotalLine = 2
+sortOf NoShape = 3
 
-not-01 : {k : Kind} → OfDocument01 k → (k ≡ ShowLine → ⊥) × (k ≡ NoShape → ⊥)
-not-01 ship = unlike (λ e. cc) (λ e. cc)
-not-01 column = unlike (λ e. cc) (λ e. cc)
-not-01 load = unlike (λ e. cc) (λ e. cc)
-not-01 hold = unlike (λ e. cc) (λ e. cc)
-not-01 drop = unlike (λ e. cc) (λ e. cc)
-not-01 judge = unlike (λ e. cc) (λ e. cc)
-not-01 clear = unlike (λ e. cc) (λ e. cc)
+sort-01 : {k : Kind} → OfDocument01 k → sortOf k ≡ 0
+sort-01 ship = refl
+sort-01 column = refl
+sort-01 load = refl
+sort-01 hold = refl
+sort-01 drop = refl
+sort-01 judge = refl
+sort-01 clear = refl
 
--- ---- a line is a form, or a show of one
+-- ---- a line is a form, a show of one, or a total
 data Read (ts : List Token) (a : Request) (us : List Token) : Type 0 where
   a-form : form? ts ≡ got a us → Read ts a us
   a-show : (vs : List Token) → ts ≡ opened ∷ run (bytes "show") ∷ vs → show? vs ≡ got a us → Read ts a us
+  a-total : (vs : List Token) → ts ≡ opened ∷ run (bytes "total") ∷ vs → bare? TotalLine vs ≡ got a us → Read ts a us
+
+-- what a total reads: the bracket behind its word
+total-reads : (vs : List Token) (a : Request) (us : List Token) → bare? TotalLine vs ≡ got a us → (sortOf (a .kind) ≡ 2) × (vs ≡ closed ∷ us)
+unfolding bare? close?
+total-reads [] a us e = clash e
+total-reads (opened ∷ vs) a us e = clash e
+total-reads (run r ∷ vs) a us e = clash e
+total-reads (closed ∷ vs) a us e = let k : plain TotalLine ≡ a = cc in (rw (← k) refl, cc)
 
 read-line : (ts : List Token) (a : Request) (us : List Token) → line? ts ≡ got a us → Read ts a us
 unfolding line? form? head? open? run?
@@ -85,9 +104,13 @@ read-line (opened ∷ opened ∷ ts) a us e = clash e
 read-line (opened ∷ closed ∷ ts) a us e = clash e
 read-line (opened ∷ run r ∷ ts) a us e = by (is r "show") refl e
   where
-    by : (x : Bool) → is r "show" ≡ x → cond x (show? ts) (formBy (formWord r) ts) ≡ got a us → Read (opened ∷ run r ∷ ts) a us
+    no-show : (x : Bool) → is r "total" ≡ x → cond x (bare? TotalLine ts) (formBy (formWord r) ts) ≡ got a us → Read (opened ∷ run r ∷ ts) a us
+    no-show true p w = a-total ts (ap (λ q. opened ∷ run q ∷ ts) (same-true r (bytes "total") p)) w
+    no-show false p w = a-form w
+
+    by : (x : Bool) → is r "show" ≡ x → cond x (show? ts) (cond (is r "total") (bare? TotalLine ts) (formBy (formWord r) ts)) ≡ got a us → Read (opened ∷ run r ∷ ts) a us
     by true p w = a-show ts (ap (λ q. opened ∷ run q ∷ ts) (same-true r (bytes "show") p)) w
-    by false p w = a-form w
+    by false p w = no-show (is r "total") refl w
 
 pub form-line : (ts : List Token) (a : Request) (us : List Token) → form? ts ≡ got a us → line? ts ≡ got a us
 unfolding line? form? head? open? run? named same
@@ -99,12 +122,19 @@ form-line (opened ∷ opened ∷ ts) a us e = clash e
 form-line (opened ∷ closed ∷ ts) a us e = clash e
 form-line (opened ∷ run r ∷ ts) a us e = by (is r "show") refl
   where
-    no-word : is r "show" ≡ true → formWord r ≡ NoWord
-    no-word p = rw (same-true r (bytes "show") p)
+    no-show : is r "show" ≡ true → formWord r ≡ NoWord
+    no-show p = rw (same-true r (bytes "show") p)
 
-    by : (x : Bool) → is r "show" ≡ x → cond x (show? ts) (formBy (formWord r) ts) ≡ got a us
-    by true p = clash (rw (no-word p) at e)
-    by false p = e
+    no-total : is r "total" ≡ true → formWord r ≡ NoWord
+    no-total p = rw (same-true r (bytes "total") p)
+
+    other : (x : Bool) → is r "total" ≡ x → cond x (bare? TotalLine ts) (formBy (formWord r) ts) ≡ got a us
+    other true p = clash (rw (no-total p) at e)
+    other false p = e
+
+    by : (x : Bool) → is r "show" ≡ x → cond x (show? ts) (cond (is r "total") (bare? TotalLine ts) (formBy (formWord r) ts)) ≡ got a us
+    by true p = clash (rw (no-show p) at e)
+    by false p = other (is r "total") refl
 
 -- what a show reads: a form, and the bracket behind it
 show-reads : (vs : List Token) (a : Request) (us : List Token) → show? vs ≡ got a us → (a ≡ plain ShowLine) × ((b : Request) × (form? vs ≡ got b (closed ∷ us)))
@@ -141,25 +171,24 @@ form-request form a e = rw (form-line form a [] e)
 pub asked-form : (form : List Token) → OfDocument01 (requestOf form .kind) → (a : Request) × (form? form ≡ got a [])
 unfolding requestOf
 asked-form form k =
-    let w = whole-reads (line? form) (not-01 k .1) in
+    let w = whole-reads (line? form) (λ e. omega (arith, sort-01 k, ap sortOf e)) in
     by (w .0) (rw (w .2) at k) (read-line form (w .0) [] (w .1))
   where
     by : (a : Request) → Of01 a → Read form a [] → (a : Request) × (form? form ≡ got a [])
     by a k (a-form e) = (a, e)
-    by a k (a-show vs t e) = absurd (not-01 k .0 (ap (λ (r : Request). r .kind) (show-reads vs a [] e .0)))
+    by a k (a-show vs t e) = absurd (omega (arith, sort-01 k, ap (λ (r : Request). sortOf (r .kind)) (show-reads vs a [] e .0)))
+    by a k (a-total vs t e) = absurd (omega (arith, sort-01 k, total-reads vs a [] e .0))
 
 -- ---- a show
 pub show-found : (ts : List Token) → requestOf ts .kind ≡ ShowLine → (form : List Token) × ShowOf ts form
 unfolding requestOf
 show-found ts k =
-    let w = whole-reads (line? ts) (λ e. not-shown (sym e ∙ k)) in
+    let w = whole-reads (line? ts) (λ e. omega (arith, ap sortOf (sym e ∙ k))) in
     by (w .0) (ap (λ (r : Request). r .kind) (sym (w .2)) ∙ k) (read-line ts (w .0) [] (w .1))
   where
-    not-shown : NoShape ≡ ShowLine → ⊥
-    not-shown e = let z : _≡_ {A = ℕ} 0 1 = cc in omega arith
-
     by : (a : Request) → a .kind ≡ ShowLine → Read ts a [] → (form : List Token) × ShowOf ts form
-    by a k (a-form e) = absurd (not-01 (form-kind ts a [] e) .0 k)
+    by a k (a-form e) = absurd (omega (arith, sort-01 (form-kind ts a [] e), ap sortOf k))
+    by a k (a-total vs t e) = absurd (omega (arith, total-reads vs a [] e .0, ap sortOf k))
     by a k (a-show vs t e) =
         let s = show-reads vs a [] e .1 in
         let f = form-frames vs (s .0) (closed ∷ []) (s .1) in
@@ -174,3 +203,19 @@ show-taken ts form w =
     let front : f .front ≡ form = sym (f .same ∙ append-nil (f .front)) in
     let e : form? (form ++ closed ∷ []) ≡ got (a .0) (closed ∷ []) = ap (λ l. form? (l ++ closed ∷ [])) (sym front) ∙ f .again (closed ∷ []) in
     rw (w .0, e)
+
+-- ---- a total
+total-found : (ts : List Token) → requestOf ts .kind ≡ TotalLine → ts ≡ opened ∷ run (bytes "total") ∷ closed ∷ []
+unfolding requestOf
+total-found ts k =
+    let w = whole-reads (line? ts) (λ e. omega (arith, ap sortOf (sym e ∙ k))) in
+    by (w .0) (ap (λ (r : Request). r .kind) (sym (w .2)) ∙ k) (read-line ts (w .0) [] (w .1))
+  where
+    by : (a : Request) → a .kind ≡ TotalLine → Read ts a [] → ts ≡ opened ∷ run (bytes "total") ∷ closed ∷ []
+    by a k (a-form e) = absurd (omega (arith, sort-01 (form-kind ts a [] e), ap sortOf k))
+    by a k (a-show vs t e) = absurd (omega (arith, ap (λ (r : Request). sortOf (r .kind)) (show-reads vs a [] e .0), ap sortOf k))
+    by a k (a-total vs t e) = t ∙ ap (λ l. opened ∷ run (bytes "total") ∷ l) (total-reads vs a [] e .1)
+
+pub taken-as-total : TakenAsTotal
+unfolding requestOf line? head? open? run? bare? close? same
+taken-as-total ts = (total-found ts, λ e. rw e refl)

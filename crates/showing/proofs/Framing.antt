@@ -15,16 +15,16 @@ use Rattle.items.specs.Grammar.{Parsed, got, none, _andThen_, open?, close?, ru
 use Rattle.parts.specs.declared.CellNamed.{CellNamed}
 use Rattle.parts.specs.declared.CellNamed.the-variants.{As, NoWord}
 use Rattle.parts.specs.Shape.{cellNamed, numbersOf, cellOf, cellBy, cell?, sectionRecord, slackRecord, section?, slack?, body?, part?}
-use Rattle.request.specs.declared.RuleNamed.{RuleNamed}
-use Rattle.request.specs.declared.RuleNamed.the-variants.{Under, NoRule}
-use Rattle.request.specs.declared.ModeNamed.{ModeNamed}
-use Rattle.request.specs.declared.ModeNamed.the-variants.{As as Mode·As, NoMode}
-use Rattle.request.specs.declared.FormWord.{FormWord}
-use Rattle.request.specs.declared.FormWord.the-variants.{ShipWord, ColumnWord, LoadWord, HoldWord, DropWord, JudgeWord, ClearWord, NoWord as Form·NoWord}
-use Rattle.request.specs.declared.Kind.{Kind}
-use Rattle.request.specs.declared.Kind.the-variants.{LoadLine, DropLine, JudgeLine, ClearLine}
-use Rattle.request.specs.declared.Request.{Request}
-use Rattle.request.specs.Shape.{plain, columnRequest, holdRequest, holdRecord, ruleNamed, shipRequest, shipBy, ship?, column?, load?, modeNamed, partsBy, parts?, hold?, drop?, bare?, formWord, formBy, form?}
+use Rattle.forms.specs.declared.RuleNamed.{RuleNamed}
+use Rattle.forms.specs.declared.RuleNamed.the-variants.{Under, NoRule}
+use Rattle.forms.specs.declared.ModeNamed.{ModeNamed}
+use Rattle.forms.specs.declared.ModeNamed.the-variants.{As as Mode·As, NoMode}
+use Rattle.forms.specs.declared.FormWord.{FormWord}
+use Rattle.forms.specs.declared.FormWord.the-variants.{ShipWord, ColumnWord, LoadWord, HoldWord, DropWord, JudgeWord, ClearWord, NoWord as Form·NoWord}
+use Rattle.forms.specs.declared.Kind.{Kind}
+use Rattle.forms.specs.declared.Kind.the-variants.{LoadLine, DropLine, JudgeLine, ClearLine}
+use Rattle.forms.specs.declared.Request.{Request}
+use Rattle.forms.specs.Shape.{plain, columnRequest, holdRequest, holdRecord, ruleNamed, shipRequest, shipBy, ship?, column?, load?, modeNamed, partsBy, parts?, hold?, drop?, bare?, formWord, formBy, form?}
 
 -- the tokens that were read, in front of those that are left; behind them anything may stand
 pub record Takes {A : Type 0} (p : List Token → Parsed A) (ts : List Token) (a : A) (us : List Token) : Type 0 where

@@ -21,9 +21,10 @@ use Rattle.spelling.proofs.Reading.{tokens-spell, tokens-proper}
 use Rattle.spelling.proofs.Spelled.{spell-allowed}
 use Rattle.spelling.proofs.Lengths.{inner-length}
 use Rattle.items.specs.Grammar.{got}
-use Rattle.request.specs.declared.Kind.the-variants.{NoShape}
-use Rattle.request.specs.declared.Request.{Request}
-use Rattle.request.specs.Shape.{form?, requestOf}
+use Rattle.forms.specs.declared.Kind.the-variants.{NoShape}
+use Rattle.forms.specs.declared.Request.{Request}
+use Rattle.forms.specs.Shape.{form?}
+use Rattle.request.specs.Shape.{requestOf}
 use Rattle.showing.specs.Show.{formInside}
 use Rattle.showing.specs.Laws.{ShowOf, TakenAsShow, InsideIsTheForm, FormsHaveFewGaps, ShowIsShort, SpelledIsSound, SpelledAsksTheSame}
 use Rattle.showing.proofs.Shapes.{line-walks, form-gaps}

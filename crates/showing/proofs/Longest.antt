@@ -11,8 +11,9 @@ use Rattle.line_codes.specs.Line.{walked, readingOf}
 use Rattle.spelling.specs.Spelling.{spell}
 use Rattle.items.specs.Grammar.{items?, lastNumbers?, numbers?, number?, head?, run?, open?, close?, named}
 use Rattle.parts.specs.Shape.{part?, body?, section?, cell?}
-use Rattle.request.specs.declared.Kind.the-variants.{ShowLine}
-use Rattle.request.specs.Shape.{requestOf, line?, show?, bare?, form?, hold?, parts?}
+use Rattle.forms.specs.declared.Kind.the-variants.{ShowLine}
+use Rattle.forms.specs.Shape.{bare?, form?, hold?, parts?}
+use Rattle.request.specs.Shape.{requestOf, line?, show?}
 use Rattle.showing.specs.Show.{formInside, showReply}
 use Rattle.showing.specs.Laws.{SomeShowIsSoLong}
 

@@ -19,16 +19,17 @@ use Rattle.items.specs.Grammar.{Parsed, got, none, _andThen_, open?, close?, ru
 use Rattle.parts.specs.declared.CellNamed.{CellNamed}
 use Rattle.parts.specs.declared.CellNamed.the-variants.{As, NoWord}
 use Rattle.parts.specs.Shape.{cellNamed, numbersOf, cellBy, cell?, section?, slack?, body?, part?}
-use Rattle.request.specs.declared.RuleNamed.{RuleNamed}
-use Rattle.request.specs.declared.RuleNamed.the-variants.{Under, NoRule}
-use Rattle.request.specs.declared.ModeNamed.{ModeNamed}
-use Rattle.request.specs.declared.ModeNamed.the-variants.{As as Mode·As, NoMode}
-use Rattle.request.specs.declared.FormWord.{FormWord}
-use Rattle.request.specs.declared.FormWord.the-variants.{ShipWord, ColumnWord, LoadWord, HoldWord, DropWord, JudgeWord, ClearWord, NoWord as Form·NoWord}
-use Rattle.request.specs.declared.Kind.{Kind}
-use Rattle.request.specs.declared.Kind.the-variants.{JudgeLine, ClearLine}
-use Rattle.request.specs.declared.Request.{Request}
-use Rattle.request.specs.Shape.{ruleNamed, shipBy, ship?, column?, load?, modeNamed, partsBy, parts?, hold?, drop?, bare?, formWord, formBy, form?, show?, line?}
+use Rattle.forms.specs.declared.RuleNamed.{RuleNamed}
+use Rattle.forms.specs.declared.RuleNamed.the-variants.{Under, NoRule}
+use Rattle.forms.specs.declared.ModeNamed.{ModeNamed}
+use Rattle.forms.specs.declared.ModeNamed.the-variants.{As as Mode·As, NoMode}
+use Rattle.forms.specs.declared.FormWord.{FormWord}
+use Rattle.forms.specs.declared.FormWord.the-variants.{ShipWord, ColumnWord, LoadWord, HoldWord, DropWord, JudgeWord, ClearWord, NoWord as Form·NoWord}
+use Rattle.forms.specs.declared.Kind.{Kind}
+use Rattle.forms.specs.declared.Kind.the-variants.{JudgeLine, ClearLine, TotalLine}
+use Rattle.forms.specs.declared.Request.{Request}
+use Rattle.forms.specs.Shape.{ruleNamed, shipBy, ship?, column?, load?, modeNamed, partsBy, parts?, hold?, drop?, bare?, formWord, formBy, form?}
+use Rattle.request.specs.Shape.{show?, line?}
 
 -- ---- the places where a bracket opens, and those where a run stands directly behind a closing bracket
 abbrev here : Token → List Token → ℕ
@@ -244,7 +245,7 @@ module _ (most total : ℕ) (end : Stand) where
     form-by k ClearWord ts p = weaker (omega arith) (bare-leaves k ClearLine ts p)
     form-by k Form·NoWord ts p = nothing
 
--- ---- a form from its first bracket to its last, and a line: a form, or a show of one
+-- ---- a form from its first bracket to its last, and a line: a form, a show of one, or a total
 abbrev Left : (most : ℕ) → List Token → (k : ℕ) → List Token → Type 0
 Left most ts k us = Behind most (opens ts) (along most before ts) 0 k us
 
@@ -271,7 +272,8 @@ line-leaves most h ts =
     leaves-if (is r "show")
     (leaves-with (leaves-with (head-leaves most n e 0 1 us (omega arith) (behind-in most n e p)) (λ q vs w. form-by most n e 1 (omega arith) 2 (formWord q) vs w)) (λ a ws w.
     leaves-with (close-leaves most n e 0 56 ws w) (λ u xs v. leaves v)))
-    (weaker most n e (omega arith) (form-by most n e 0 (omega arith) 1 (formWord r) us p)))
+    (leaves-if (is r "total") (weaker most n e (omega arith) (bare-leaves most n e 0 (omega arith) 1 TotalLine us p))
+    (weaker most n e (omega arith) (form-by most n e 0 (omega arith) 1 (formWord r) us p))))
 
 -- nothing is left
 record Whole (most k : ℕ) (ts : List Token) : Type 0 where

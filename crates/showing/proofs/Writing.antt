@@ -10,7 +10,7 @@ use Rattle.text.specs.Token.{closing, Token, opened, closed, run, tokens}
 use Rattle.reply.specs.Written.{over}
 use Rattle.spelling.specs.Spelling.{written, between, spell}
 use Rattle.items.specs.Grammar.{got, none, head?, open?, run?}
-use Rattle.request.specs.declared.Kind.the-variants.{ShowLine}
+use Rattle.forms.specs.declared.Kind.the-variants.{ShowLine}
 use Rattle.request.specs.Shape.{requestOf}
 use Rattle.showing.specs.Show.{formInside, showReply}
 use Rattle.showing.specs.Laws.{ShowOf}

@@ -1,4 +1,4 @@
--- The laws of show. Proved in proofs/Laws.antt.
+-- The laws of show, and of total, which it does not take. Proved in proofs/Laws.antt and proofs/Forms.antt.
 use mathlib.Core.Path.{_≡_}
 use mathlib.Core.List.{List, [], _∷_, _++_}
 use mathlib.Core.Logic.{_↔_}
@@ -11,8 +11,8 @@ use Rattle.text.specs.Token.{Token, opened, closed, run, tokens}
 use Rattle.line_codes.specs.declared.Reading.the-variants.{Sound}
 use Rattle.line_codes.specs.Line.{readingOf}
 use Rattle.spelling.specs.Spelling.{spell, bracketGaps}
-use Rattle.request.specs.declared.Kind.{Kind}
-use Rattle.request.specs.declared.Kind.the-variants.{ShipLine, ColumnLine, LoadLine, HoldLine, DropLine, JudgeLine, ClearLine, ShowLine}
+use Rattle.forms.specs.declared.Kind.{Kind}
+use Rattle.forms.specs.declared.Kind.the-variants.{ShipLine, ColumnLine, LoadLine, HoldLine, DropLine, JudgeLine, ClearLine, ShowLine, TotalLine}
 use Rattle.request.specs.Shape.{requestOf}
 use Rattle.showing.specs.Show.{formInside, showReply}
 
@@ -59,3 +59,7 @@ SpelledIsSound =
 
 abbrev pub SpelledAsksTheSame : Type 0
 SpelledAsksTheSame = (line : List ℕ) (form : List Token) → ShowOf (tokens line) form → requestOf (tokens (spell form)) ≡ requestOf form
+
+-- document 02, P4: a line is taken as total exactly where it is `(total)`, whatever the spaces: not with items, and not inside a show
+abbrev pub TakenAsTotal : Type 0
+TakenAsTotal = (ts : List Token) → (requestOf ts .kind ≡ TotalLine) ↔ (ts ≡ opened ∷ run (bytes "total") ∷ closed ∷ [])

@@ -5,7 +5,7 @@ ghost use Prim.Native.Nat.{_≤_};
 ghost use lib.ListN.{length};
 ghost use Rattle.text.specs.Token.{tokens};
 ghost use Rattle.reply.specs.Written.{over};
-ghost use Rattle.request.specs.declared.Kind.the-variants.{ShowLine};
+ghost use Rattle.forms.specs.declared.Kind.the-variants.{ShowLine};
 ghost use Rattle.request.specs.Shape.{requestOf};
 ghost use Rattle.showing.specs.Show.{showReply};
 

@@ -20,31 +20,31 @@ use Rattle.storing.proofs.Columns.{held-more}
 
 module _ (c : Condition) where
   pub ship-put : (s : Ship) → ShipStored c s (withShip c s)
-  ship-put s = (refl, refl, (refl, refl), refl, refl)
+  ship-put s = (refl, refl, (refl, refl), refl, (refl, refl))
 
   pub load-put : (l : Load) → LoadStored c l (withLoad c l)
-  load-put l = (refl, refl, (refl, refl), refl, refl)
+  load-put l = (refl, refl, (refl, refl), refl, (refl, refl))
 
   -- a column taken in twenty places is the last one held
   pub column-put : (k : Column) → columnAnswer (held (c .columns)) k ≡ Taken → ColumnStored c k (withColumns c (withColumn (c .columns) k))
   column-put k t long =
       let b = taken-is (held (c .columns)) k t .below in
       let n = length-take (c .columns .count) (c .columns .places) in
-      (held-more (c .columns) k (record { places = long; count = omega arith }) t, (refl, refl), (refl, refl), refl)
+      (held-more (c .columns) k (record { places = long; count = omega arith }) t, (refl, refl), (refl, refl), (refl, refl))
 
   -- a hold put in a place of the sixteen
-  module _ (n : ℕ) (h : Hold) (p : (1 ≤ n) × (n ≤ 16)) where
-    at-place : length (c .holds) ≡ 16 → getD (withHold c n h .holds) (n - 1) noHold ≡ h
+  module _ (n : ℕ) (h : Hold) (w : ℕ) (p : (1 ≤ n) × (n ≤ 16)) where
+    at-place : length (c .holds) ≡ 16 → getD (withHold c n h w .holds) (n - 1) noHold ≡ h
     at-place long = getD-set-same (c .holds) (n - 1) h noHold (omega (arith, p .0, p .1))
 
-    other-places : OtherPlaces n c (withHold c n h)
+    other-places : OtherPlaces n c (withHold c n h w)
     other-places m low high other =
         getD-set-other (c .holds) (n - 1) (m - 1) h noHold (λ e. other (omega (arith, p .0)))
 
-    pub hold-put : HoldStored c n h (withHold c n h)
+    pub hold-put : HoldStored c n h (withHold c n h w)
     hold-put long = (at-place long, other-places, (refl, refl), (refl, refl), refl)
 
   -- a drop puts an empty one there
-  pub drop-put : (n : ℕ) → (1 ≤ n) × (n ≤ 16) → HoldDropped c n (withHold c n noHold)
+  pub drop-put : (n : ℕ) → (1 ≤ n) × (n ≤ 16) → HoldDropped c n (withHold c n noHold 0)
   drop-put n p long =
-      (ap (λ (h : Hold). h .head .count) (at-place n noHold p long), other-places n noHold p, (refl, refl), (refl, refl), refl)
+      (ap (λ (h : Hold). h .head .count) (at-place n noHold 0 p long), other-places n noHold 0 p, (refl, refl), (refl, refl), refl)

@@ -18,23 +18,28 @@ SameShip c after = (after .shipped ≡ c .shipped) × (after .ship ≡ c .ship)
 abbrev pub SameLoad : Condition → Condition → Type 0
 SameLoad c after = (after .loaded ≡ c .loaded) × (after .load ≡ c .load)
 
+-- the holds, and the stored figure of their weight moments
+abbrev pub SameHolds : Condition → Condition → Type 0
+SameHolds c after = (after .holds ≡ c .holds) × (after .total ≡ c .total)
+
 -- every place of the sixteen but the n-th, counted from 1, is as it was
 abbrev pub OtherPlaces : ℕ → Condition → Condition → Type 0
 OtherPlaces n c after = (m : ℕ) → 1 ≤ m → m ≤ 16 → (m ≡ n → ⊥) → getD (after .holds) (m - 1) noHold ≡ getD (c .holds) (m - 1) noHold
 
 abbrev pub ShipStored : Condition → Ship → (after : Condition) → Type 0
 ShipStored c s after =
-    (after .shipped ≡ true) × (after .ship ≡ s) × SameLoad c after × (after .columns ≡ c .columns) × (after .holds ≡ c .holds)
+    (after .shipped ≡ true) × (after .ship ≡ s) × SameLoad c after × (after .columns ≡ c .columns) × SameHolds c after
 
 abbrev pub LoadStored : Condition → Load → (after : Condition) → Type 0
 LoadStored c l after =
-    (after .loaded ≡ true) × (after .load ≡ l) × SameShip c after × (after .columns ≡ c .columns) × (after .holds ≡ c .holds)
+    (after .loaded ≡ true) × (after .load ≡ l) × SameShip c after × (after .columns ≡ c .columns) × SameHolds c after
 
 abbrev pub ColumnStored : Condition → Column → (after : Condition) → Type 0
 ColumnStored c k after =
     length (c .columns .places) ≡ 20 →
-    (held (after .columns) ≡ held (c .columns) ++ k ∷ []) × SameShip c after × SameLoad c after × (after .holds ≡ c .holds)
+    (held (after .columns) ≡ held (c .columns) ++ k ∷ []) × SameShip c after × SameLoad c after × SameHolds c after
 
+-- of the stored figure after a hold or a drop `StepsStayWithin` speaks (demands/specs/Demands.antt): it is true again
 abbrev pub HoldStored : Condition → ℕ → Hold → (after : Condition) → Type 0
 HoldStored c n h after =
     length (c .holds) ≡ 16 →

@@ -8,23 +8,28 @@ use Rattle.record.specs.declared.Columns.{Columns}
 use Rattle.record.specs.declared.Hold.{Hold}
 use Rattle.record.specs.Filler.{noHold}
 use Rattle.condition.specs.declared.Condition.{Condition}
+use Rattle.total.specs.Total.{exchanged}
 
 -- a new ship or load replaces the former one
 abbrev pub withShip : Condition → Ship → Condition
 withShip c s =
-    record { shipped = true; ship = s; loaded = c .loaded; load = c .load; columns = c .columns; holds = c .holds }
+    record { shipped = true; ship = s; loaded = c .loaded; load = c .load; columns = c .columns; holds = c .holds; total = c .total }
 
 abbrev pub withLoad : Condition → Load → Condition
 withLoad c l =
-    record { shipped = c .shipped; ship = c .ship; loaded = true; load = l; columns = c .columns; holds = c .holds }
+    record { shipped = c .shipped; ship = c .ship; loaded = true; load = l; columns = c .columns; holds = c .holds; total = c .total }
 
 abbrev pub withColumns : Condition → Columns → Condition
 withColumns c ks =
-    record { shipped = c .shipped; ship = c .ship; loaded = c .loaded; load = c .load; columns = ks; holds = c .holds }
+    record { shipped = c .shipped; ship = c .ship; loaded = c .loaded; load = c .load; columns = ks; holds = c .holds; total = c .total }
 
--- hold N, from 1 on, stands in the place N − 1; a new one replaces the former one
-abbrev pub withHold : Condition → ℕ → Hold → Condition
-withHold c n h =
+-- hold N, from 1 on, stands in the place N − 1
+abbrev pub holdAt : Condition → ℕ → Hold
+holdAt c n = getD (c .holds) (n - 1) noHold
+
+-- a new hold replaces the former one, and its moment w the former one's in the stored figure; a drop puts an empty one there, with 0
+abbrev pub withHold : Condition → (n : ℕ) → Hold → (w : ℕ) → Condition
+withHold c n h w =
     record {
       shipped = c .shipped;
       ship = c .ship;
@@ -32,7 +37,5 @@ withHold c n h =
       load = c .load;
       columns = c .columns;
       holds = set (c .holds) (n - 1) h;
+      total = exchanged (c .total) (holdAt c n) w;
     }
-
-abbrev pub holdAt : Condition → ℕ → Hold
-holdAt c n = getD (c .holds) (n - 1) noHold

@@ -48,15 +48,18 @@ pub fn with_column(c: Condition, k: Column) -> Condition
     after
 }
 
-// The hold in its place, where there is one; a drop puts an empty one there.
-pub fn with_hold(c: Condition, n: u32, h: Hold) -> Condition
-    ensures { λ r. ⌜ r ≡ cond (placeLimits n) (withHold c n h) c ⌝ }
+// The hold in its place, where there is one, and its moment in the figure; a drop puts an empty one there, with 0.
+pub fn with_hold(c: Condition, n: u32, h: Hold, moment: u64) -> Condition
+    ensures { λ r. ⌜ r ≡ cond (placeLimits n) (withHold c n h moment) c ⌝ }
 {
     if !limits::place_limits(n) {
         return c;
     }
     let place = (n - 1) as usize;
+    let old = c.holds[place];
+    let figure = total::exchange(c.total, old, moment);
     let mut after = c;
+    after.total = figure;
     after.holds[place] = h;
     after
 }

@@ -23,7 +23,8 @@ returns-4 c = rw (c .before .before .kind3 .given .1) (c .with-hold .ensures)
 
 returns-5 : tie.Need-returns-5
 unfolding effectOf
-returns-5 c = rw (c .before .before .before .kind4 .given .1, ← c .before .no-hold .ensures) (c .with-hold2 .ensures)
+returns-5 c =
+    rw (c .before .before .before .kind4 .given .1) (rw (c .before .no-hold .ensures) at (c .with-hold2 .ensures))
 
 returns-6 : tie.Need-returns-6
 unfolding effectOf
@@ -40,6 +41,10 @@ returns-8 c = rw (c .enum-told4 .given .1) refl
 returns-9 : tie.Need-returns-9
 unfolding effectOf
 returns-9 c = rw (c .enum-told5 .given .1) refl
+
+returns-10 : tie.Need-returns-10
+unfolding effectOf
+returns-10 c = rw (c .enum-told6 .given .1) refl
 
 pub effect-spec : {M : Type 1} → statement M
 effect-spec =
@@ -61,6 +66,7 @@ effect-spec =
     (λ c κs. search needs)
     (λ c. search needs)
     (λ c. search needs)
+    (λ c. search needs)
     returns
     returns-2
     returns-3
@@ -69,4 +75,5 @@ effect-spec =
     returns-6
     returns-7
     returns-8
-    returns-9)
+    returns-9
+    returns-10)

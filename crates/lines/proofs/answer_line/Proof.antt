@@ -27,6 +27,7 @@ returns c =
     rw (← a)
     (record {
       coded = e .coded;
+      moment = e .moment;
       room = omega (arith, e .long, w, m, pre);
       waits = rw (e .written) (reply-waits l part _ _ n _ (omega (arith, pre)) (e .long));
     })

@@ -1,5 +1,6 @@
 -- `answer`: the reply to a line and what was heard of it, at the front of the lent buffer.
-use mathlib.Core.Path.{refl}
+use mathlib.Core.Path.{refl, sym, _∙_}
+use native.Mathlib.Omega.{arith}
 use lib.ListN.{length}
 use Rattle.reply.specs.Written.{over}
 use Rattle.panel.proofs.Answers.{step-none, step-refused, step-request, heard-asks, heard-short}
@@ -11,13 +12,15 @@ returns : tie.Need-returns
 unfolding over
 returns c =
     let k = c .before .before .before .args in
-    rw (step-none (k .c) (k .line .now) (length (k .out .now)) (search needs)) (record { coded = refl; long = refl; written = refl })
+    rw (step-none (k .c) (k .line .now) (length (k .out .now)) (search needs)) (record { coded = refl; long = refl; moment = λ z. absurd (omega arith); written = refl })
 
 returns-2 : tie.Need-returns-2
 returns-2 c =
     let t = c .before .before .before .before in
     let k = t .before .before .before .before in
-    rw (step-refused (k .args .c) (k .args .line .now) (length (k .args .out .now)) (k .args .h) (k .pre) (search needs) (t .if2 .taken)) (c .before .before .answer-with .ensures)
+    let a = c .before .before .answer-with .ensures in
+    rw (step-refused (k .args .c) (k .args .line .now) (length (k .args .out .now)) (k .args .h) (k .pre) (search needs) (t .if2 .taken))
+    (record { coded = a .coded; long = a .long; moment = λ z. absurd (t .if2 .taken (sym (a .coded) ∙ z)); written = a .written })
 
 reply-to-requires : tie.Need-reply-to-requires
 reply-to-requires c κs =

@@ -1,5 +1,6 @@
 -- `reply_to`: the reply to the request of a line.
 use Rattle.text.specs.Token.{tokens}
+use Rattle.operations.proofs.Taking.{hold-answered}
 use Rattle.panel.specs.Step.{outcomeOf}
 use Rattle.panel.proofs.Carrying.{carried-show}
 use borrow.Author.Needs.{needs}
@@ -26,13 +27,15 @@ returns-4 : tie.Need-returns-4
 unfolding outcomeOf
 returns-4 c =
     let k = c .before .before .before .before .before .before in
-    rw (k .kind3 .given .1, ← c .before .before .before .before .hold-code .ensures (k .before .before .before .before .before .before .args .c)) (c .before .before .answer-with4 .ensures)
+    let args = k .before .before .before .before .before .before .args in
+    let a = rw (c .before .before .before .before .hold-answer .ensures) at (c .before .before .answer-weighed .ensures) in
+    rw (k .kind3 .given .1, ← hold-answered (k .kind3 .given .0 .0) (args .r .hold) (args .c)) a
 
 returns-5 : tie.Need-returns-5
 unfolding outcomeOf
 returns-5 c =
     let kind4-given = c .before .before .before .before .before .before .kind4 .given in
-    rw (kind4-given .1, ← c .before .before .before .before .drop-code .ensures) (c .before .before .answer-with5 .ensures)
+    rw (kind4-given .1, ← c .before .before .before .before .drop-code .ensures) (c .before .before .answer-with4 .ensures)
 
 returns-6 : tie.Need-returns-6
 unfolding outcomeOf
@@ -40,7 +43,7 @@ returns-6 c = rw (c .before .before .before .before .enum-told2 .given .1) (c .b
 
 returns-7 : tie.Need-returns-7
 unfolding outcomeOf
-returns-7 c = rw (c .before .before .before .before .enum-told3 .given .1) (c .before .before .answer-with6 .ensures)
+returns-7 c = rw (c .before .before .before .before .enum-told3 .given .1) (c .before .before .answer-with5 .ensures)
 
 show-form-requires : tie.Need-show-form-requires
 show-form-requires c κs =
@@ -56,7 +59,11 @@ returns-8 c =
 
 returns-9 : tie.Need-returns-9
 unfolding outcomeOf
-returns-9 c = rw (c .before .before .before .before .enum-told5 .given .1) (c .before .before .answer-with7 .ensures)
+returns-9 c = rw (c .before .before .before .before .enum-told5 .given .1) (c .before .before .show-total .ensures)
+
+returns-10 : tie.Need-returns-10
+unfolding outcomeOf
+returns-10 c = rw (c .before .before .before .before .enum-told6 .given .1) (c .before .before .answer-with6 .ensures)
 
 pub reply-to-spec : {M : Type 1} → statement M
 reply-to-spec =
@@ -86,6 +93,8 @@ reply-to-spec =
     (λ c. search needs)
     (λ c κs. search needs)
     (λ c. search needs)
+    (λ c κs. search needs)
+    (λ c. search needs)
     returns
     (λ c. search needs)
     returns-2
@@ -102,4 +111,6 @@ reply-to-spec =
     (λ c. search needs)
     returns-8
     (λ c. search needs)
-    returns-9)
+    returns-9
+    (λ c. search needs)
+    returns-10)

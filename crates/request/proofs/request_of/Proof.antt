@@ -1,4 +1,4 @@
--- `request_of`: the request of a line: the form that it is, or shows, with nothing behind it.
+-- `request_of`: the request of a line: what it is, or shows, with nothing behind it.
 use mathlib.Core.Path.{_≡_, sym, _∙_, ap}
 use mathlib.Core.Bool.{true, false}
 use mathlib.Core.List.{List}
@@ -11,11 +11,12 @@ use Rattle.items.specs.Grammar.{Parsed, got, whole?}
 use Rattle.items.specs.Carried.{carry}
 use Rattle.items.specs.Places.{Reads, Ends}
 use Rattle.items.proofs.Walks.{Carries, carries, carries-none, whole-end, whole-more}
-use Rattle.request.specs.declared.Kind.the-variants.{ShowLine, NoShape}
-use Rattle.request.specs.declared.Request.{Request}
-use Rattle.request.specs.Shape.{plain, bare?, formWord, requestOf}
-use Rattle.request.specs.Carried.{carriedRequest}
-use Rattle.request.specs.Word.{FirstWord, word?, formOf}
+use Rattle.forms.specs.declared.Kind.the-variants.{ShowLine, NoShape}
+use Rattle.forms.specs.declared.Request.{Request}
+use Rattle.forms.specs.Shape.{plain, bare?}
+use Rattle.forms.specs.Carried.{carriedRequest}
+use Rattle.request.specs.Shape.{requestOf}
+use Rattle.request.specs.Word.{FirstWord, word?, lineWord, formOf}
 use Rattle.request.proofs.Shows.{line-by-word, no-form-read, form-read, show-read, show-carried}
 use borrow.Author.Needs.{needs}
 use Rattle.request.proofs.request_of.Statement.{statement}
@@ -47,18 +48,18 @@ word-read k = rw (k .a .given .1) at (k .before .before .first-word .ensures)
 run-of-requires : tie.Need-run-of-requires
 run-of-requires c κs = let n = word-read (c .before) in (n .1, n .0 .1)
 
-form-by-requires : tie.Need-form-by-requires
-form-by-requires c κs = word-read (c .before .before .before) .0 .1
+line-by-requires : tie.Need-line-by-requires
+line-by-requires c κs = word-read (c .before .before .before) .0 .1
 
 -- the form behind it
 abbrev formAt : tie.After-a → Parsed Request
 formAt k = formOf (wordOf k) (tokens (drop (to k) (lineOf k)))
 
-abbrev wordAt : tie.After-form-by → tie.After-a
+abbrev wordAt : tie.After-line-by → tie.After-a
 wordAt f = f .before .before .before .before
 
-form-ends : (f : tie.After-form-by) (end : Place) → f .form-by .result .end ≡ end → Ends (carry carriedRequest (formAt (wordAt f))) (lineOf (wordAt f)) (f .form-by .result .request) end
-form-ends f end e = rw (← e) (rw (f .before .form-word .ensures ∙ ap formWord (f .before .before .run-of .ensures)) at (f .form-by .ensures))
+form-ends : (f : tie.After-line-by) (end : Place) → f .line-by .result .end ≡ end → Ends (carry carriedRequest (formAt (wordAt f))) (lineOf (wordAt f)) (f .line-by .result .request) end
+form-ends f end e = rw (← e) (rw (f .before .line-word .ensures ∙ ap (lineWord (wordOf (wordAt f) .shown)) (f .before .before .run-of .ensures)) at (f .line-by .ensures))
 
 returns-2 : tie.Need-returns-2
 unfolding carriedRequest
@@ -75,11 +76,11 @@ module _ (d : tie.After-end) where
   abbrev rest : List Token
   rest = tokens (drop (d .end .given .0 .0) (lineOf word))
 
-  end-read : (carry carriedRequest (formAt word) ≡ got (d .before .before .form-by .result .request) rest) × (d .end .given .0 .0 ≤ length (lineOf word))
+  end-read : (carry carriedRequest (formAt word) ≡ got (d .before .before .line-by .result .request) rest) × (d .end .given .0 .0 ≤ length (lineOf word))
   end-read = form-ends (d .before .before) (At (d .end .given .0 .0)) (d .end .given .1)
 
-  carries-form : Carries carriedRequest (formAt word) (d .before .before .form-by .result .request) rest
-  carries-form = carries carriedRequest (formAt word) (d .before .before .form-by .result .request) rest (end-read .0)
+  carries-form : Carries carriedRequest (formAt word) (d .before .before .line-by .result .request) rest
+  carries-form = carries carriedRequest (formAt word) (d .before .before .line-by .result .request) rest (end-read .0)
 
   shown-read : wordOf word .shown ≡ true → requestOf (tokens (lineOf word)) ≡ whole? (bare? ShowLine rest) (plain NoShape)
   shown-read = show-read (tokens (lineOf word)) _ _ (word-read word .0 .0) (carries-form .read) rest (carries-form .is)
@@ -121,7 +122,7 @@ request-of-spec =
     returns
     run-of-requires
     (λ c κs. search needs)
-    form-by-requires
+    line-by-requires
     (λ c. search needs)
     (λ c. search needs)
     (λ c κs. search needs)

@@ -2,8 +2,8 @@
 use mathlib.Core.Path.{sym, _∙_}
 use lib.ListN.{drop}
 use Rattle.text.specs.Token.{tokens}
-use Rattle.request.specs.declared.Kind.the-variants.{ShowLine, NoShape}
-use Rattle.request.specs.Shape.{plain, bare?}
+use Rattle.forms.specs.declared.Kind.the-variants.{ShowLine, NoShape}
+use Rattle.forms.specs.Shape.{plain, bare?}
 use Rattle.items.proofs.Walks.{whole-end, whole-more}
 use borrow.Author.Needs.{needs}
 use Rattle.request.proofs.show_request.Statement.{statement}

@@ -1,0 +1,16 @@
+-- `answer_weighed`: a hold line is answered with the code of its weighing, and hands its moment on.
+use borrow.Author.Needs.{needs}
+use Rattle.panel.proofs.answer_weighed.Statement.{statement}
+use Rattle.panel.proofs.answer_weighed.Tie as tie
+
+returns : tie.Need-returns
+returns c =
+    let k = c .before .before .before in
+    let e = k .before .before .weighed-code .ensures in
+    let a = rw e at (k .answer .ensures) in
+    record { coded = e; long = a .0; moment = λ z. c .weighed-moment .ensures; written = a .1 }
+
+pub answer-weighed-spec : {M : Type 1} → statement M
+answer-weighed-spec =
+    tie.close
+    (tie.spec (λ c κs. search needs) (λ c κs. search needs) (λ c κs. search needs) (λ c. search needs) returns)
