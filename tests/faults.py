@@ -287,6 +287,31 @@ old: (at-place n noHold 0 p long), other-places n noHold 0 p
 new: (at-place n noHold (c .total) p long), other-places n noHold (c .total) p
 """
 
+CLEAR_KEEPS = """
+file: crates/effects/src/lib.rt
+old: ghost use Rattle.effects.specs.Effect.{effectOf};
+new: ghost use Rattle.effects.specs.Effect.{effectOf, clearedOf};
+old: pub fn effect(c: Condition, r: Request, moment: u64) -> Condition
+new: fn cleared(c: Condition) -> Condition ensures { λ a. ⌜ a ≡ clearedOf c ⌝ } { let mut e = condition::empty_condition(); e.total = c.total; e } pub fn effect(c: Condition, r: Request, moment: u64) -> Condition
+old:         Kind::ClearLine => condition::empty_condition(),
+new:         Kind::ClearLine => cleared(c),
+file: crates/effects/specs/Effect.antt
+old: -- what a request puts into the condition, w being the moment of its hold. It is taken only where the request is answered with 00; elsewhere its value is free,
+new: abbrev pub clearedOf : Condition → Condition
+old: -- and these are the simplest
+new: clearedOf c = record { shipped = empty .shipped; ship = empty .ship; loaded = empty .loaded; load = empty .load; columns = empty .columns; holds = empty .holds; total = c .total }
+old: effectBy c ClearLine h k w = empty
+new: effectBy c ClearLine h k w = clearedOf c
+file: crates/effects/proofs/effect/Proof.antt
+old: (c .empty-condition .ensures)
+new: (c .cleared .ensures)
+file: crates/panel/specs/Step.antt
+old: use Rattle.condition.specs.Condition.{empty}
+new: use Rattle.effects.specs.Effect.{clearedOf}
+old: outcomeBy c ts n ClearLine h k = answered (taken empty)
+new: outcomeBy c ts n ClearLine h k = answered (taken (clearedOf c))
+"""
+
 TOTAL_CAPPED = """
 file: crates.txt
 old: panel: whole record
@@ -331,9 +356,10 @@ FAULTS = {
     "slack_moment_down": Fault("the moment of a triangle of void or grain rounded down", [edit("slack", "theorem_moment_rounded_down")]),
     "no_second_term": Fault("a line from deck to floor without h³/(24 s²)", [edit("slack", "theorem_no_second_term")]),
     "slope_not_squared": Fault("a line from deck to floor with h³/(24 s)", [edit("slack", "theorem_slope_not_squared")]),
-    "replaced_stays_in": Fault("the moment of a replaced hold stays in the figure, the new one's is taken off", [("", REPLACED_STAYS_IN)]),
+    "replaced_stays_in": Fault("the moment of a replaced or dropped hold stays in the figure, that of the new one is taken off", [("", REPLACED_STAYS_IN)]),
     "new_moment_not_put_on": Fault("the moment of a new hold is not put on", [edit("total", "theorem_new_moment_not_put_on")]),
     "drop_puts_on": Fault("a drop puts the figure on once more", [("", DROP_PUTS_ON)]),
+    "clear_keeps_the_figure": Fault("a clear keeps the figure", [("", CLEAR_KEEPS)]),
     "empty_with_a_moment": Fault("a panel newly started or cleared has a moment of 1", [edit("condition", "theorem_empty_with_a_moment")]),
     "ship_forgets_the_figure": Fault("a new ship forgets the figure", [edit("storing", "theorem_ship_forgets_the_figure")]),
     "total_capped": Fault("total shows at most 1,000,000,000", [("", TOTAL_CAPPED)]),

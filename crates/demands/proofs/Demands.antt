@@ -13,7 +13,7 @@ use Rattle.demands.proofs.Spaces.{spaces-are-free}
 use Rattle.demands.proofs.Demand2.{weight-is-total}
 use Rattle.demands.proofs.Demand3.{verdicts-hold}
 use Rattle.demands.proofs.Reached.{steps-stay-within, reached-are-within, ranges-are-within}
-use Rattle.demands.proofs.Total.{stored-is-the-sum, total-stands-alone, totals-are-shown, sent-weigh-the-same}
+use Rattle.demands.proofs.Total.{stored-is-the-sum, total-stands-alone, total-with-items, totals-are-shown, stored-is-shown, sent-weigh-the-same}
 use Rattle.demands.proofs.Runs.{first-run, second-run, deck-run, show-run, total-run}
 
 pub demands : Demands
@@ -37,7 +37,9 @@ demands =
       recordsCanBeSent = records-can-be-sent;
       storedIsTheSum = stored-is-the-sum;
       totalStandsAlone = total-stands-alone;
+      totalWithItems = total-with-items;
       totalsAreShown = totals-are-shown;
+      storedIsShown = stored-is-shown;
       totalRun = total-run;
       sentWeighTheSame = sent-weigh-the-same;
       spacesAreFree = spaces-are-free;

@@ -37,7 +37,7 @@ use Rattle.sending.specs.Within.{Within}
 use Rattle.sending.specs.Laws.{RecordsCanBeSent}
 use Rattle.demands.specs.Codes.{request, Asks, ByOperation}
 use Rattle.demands.specs.Show.{ShowsAForm, ShowsTheForm, ShapesAreFourDeep}
-use Rattle.demands.specs.Total.{StoredIsTheSum, TotalStandsAlone, TotalsAreShown, SentWeighTheSame}
+use Rattle.demands.specs.Total.{StoredIsTheSum, TotalStandsAlone, TotalWithItems, TotalsAreShown, StoredIsShown, SentWeighTheSame}
 use Rattle.demands.specs.Runs.{FirstRun, SecondRun, DeckRun, ShowRun, TotalRun}
 
 -- ---- Demand 1
@@ -167,7 +167,7 @@ StepsStayWithin = (c : Condition) (line : List ℕ) (lent : ℕ) → Within c �
 abbrev pub ReachedAreWithin : Type 0
 ReachedAreWithin = (ls : List Sent) → Within (conditionAfter empty ls)
 
--- and so is every one whose records are in the paper's ranges: "within its limits" leaves none of them out
+-- and so is every one whose records are in the paper's ranges and whose figure is true: "within its limits" leaves none of them out
 abbrev pub RangesAreWithin : Type 0
 RangesAreWithin = (c : Condition) → Places c → InRanges c → Within c
 
@@ -192,7 +192,9 @@ pub record Demands : Type 0 where
   pub recordsCanBeSent : RecordsCanBeSent
   pub storedIsTheSum : StoredIsTheSum
   pub totalStandsAlone : TotalStandsAlone
+  pub totalWithItems : TotalWithItems
   pub totalsAreShown : TotalsAreShown
+  pub storedIsShown : StoredIsShown
   pub totalRun : TotalRun
   pub sentWeighTheSame : SentWeighTheSame
   pub spacesAreFree : SpacesAreFree

@@ -5,8 +5,7 @@
 -- wings, hatches and void cells; a wing whose depth lies between two tenths and its area between two whole mm², 946.12 and 6,983,902.2;
 -- one whose two terms have hundredths, 447.34 + 189.75, so that each rounded by itself gives another tenth; one at the least depth; an
 -- excess that moves past a cell with room, a void that does not fit; FLOOD inside a step; each of 40 to 43 once, and a DIFF below zero
--- beyond UPPER with 00. The third is of partly filled parts of each shape, the fourth of show lines, the fifth
--- of totals.
+-- beyond UPPER with 00. The third is of partly filled parts of each shape, the fourth of show lines, the fifth of totals.
 use mathlib.Core.Path.{_≡_}
 use mathlib.Core.List.{List, [], _∷_, map}
 use Prim.Native.String.{String}

@@ -5,8 +5,8 @@ use forms::Request;
 ghost use mathlib.Core.Path.{_≡_};
 ghost use Rattle.effects.specs.Effect.{effectOf};
 
-// What a request that was answered with 00 puts into the condition, with the moment that a hold's answer found. The condition is large, and is copied wherever a function gives it: a
-// line that is turned down never comes here.
+// What a request that was answered with 00 puts into the condition, with the moment that the answer to a hold found. The condition is large, and
+// is copied wherever a function gives it: a line that is turned down never comes here.
 pub fn effect(c: Condition, r: Request, moment: u64) -> Condition
     ensures { λ a. ⌜ a ≡ effectOf c r moment ⌝ }
 {

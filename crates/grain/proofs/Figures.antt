@@ -9,7 +9,7 @@ use lib.Dec.{leb}
 use lib.ListN.{length, getD}
 use borrow.Author.Tests.{leb-true, le-leb}
 use Rattle.whole.specs.Lists.{sumOf}
-use Rattle.whole.proofs.Lists.{all-at, all-from}
+use Rattle.whole.proofs.Lists.{all-at, all-from, sum-at}
 use Rattle.record.specs.declared.Mode.{Mode}
 use Rattle.record.specs.declared.Mode.the-variants.{Trimmed, Voided, Partial}
 use Rattle.record.specs.declared.Cell.{Cell}
@@ -145,16 +145,10 @@ first-taken k small =
     }
 
 -- each kept area of a section within its limits
-at-most-sum : (ks : List Kept) (i : ℕ) → i < length ks → keptAt ks i ≤ sumOf (λ k. k .area) ks
-unfolding sumOf
-at-most-sum [] i h = absurd (omega arith)
-at-most-sum (k ∷ ks) zero h = omega arith
-at-most-sum (k ∷ ks) (suc i) h = omega (arith, at-most-sum ks i (omega arith))
-
 kept-small : (cs : List Cell) → SectionWithin cs → (i : ℕ) → i < length (keptOf cs) → keptAt (keptOf cs) i ≤ 200000000
 kept-small [] w i h = absurd (omega (arith, w .some))
 kept-small (c ∷ cs) w i h =
-    omega (arith, at-most-sum (keptOf (c ∷ cs)) i h, kept-sum 0 c cs, areas-le (c ∷ cs) (w .cells), w .widths)
+    omega (arith, sum-at (λ (k : Kept). k .area) (kept 0 0) (keptOf (c ∷ cs)) i h, kept-sum 0 c cs, areas-le (c ∷ cs) (w .cells), w .widths)
 
 pub section-moment : (cs : List Cell) → SectionWithin cs → SectionMoment cs (sectionMoment cs)
 unfolding kept-areas

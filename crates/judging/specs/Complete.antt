@@ -1,4 +1,4 @@
--- Document 01, in its numbers: a condition whose records are in their ranges, one that judge is ready for, and one that is complete.
+-- Document 01, in its numbers: a condition whose records are in their ranges and whose figure is true, one that judge is ready for, and one that is complete.
 use mathlib.Core.Path.{_≡_}
 use mathlib.Core.Bool.{true}
 use Prim.Native.Nat.{ℕ, _+_, _≤_, _<_}

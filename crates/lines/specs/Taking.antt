@@ -31,10 +31,10 @@ pub record FromBlock (f : Feed) (block : List ℕ) (at : ℕ) (out : List ℕ) (
   pub room : r .feed .filled ≤ 65536
   pub stopped : 0 < r .feed .left → r .feed .filled + 2100 ≤ 65536 → NoNewline (drop (r .at) block)
 
--- the reply of an outcome goes behind those that wait in the buffer; w is the moment that a line which is taken hands on
+-- the reply of an outcome goes behind those that wait in the buffer; w is the moment that it hands on
 pub record RepliedBehind (o : Outcome) (w : ℕ) (r : Replied) (filled : ℕ) (before after : List ℕ) : Type 0 where
   pub coded : r .code ≡ o .code
-  pub moment : r .code ≡ 0 → r .moment ≡ w
+  pub moment : r .moment ≡ w
   pub room : filled + r .len ≤ 65536
   pub waits : take (filled + r .len) after ≡ take filled before ++ o .reply
 

@@ -17,7 +17,7 @@ ghost use Rattle.grain.specs.Sum.{weighedCode, weighedMoment};
 ghost use Rattle.reply.specs.Replies.{answerReply, totalReply};
 ghost use Rattle.judging.specs.Judge.{judgedOf};
 ghost use Rattle.panel.specs.Step.{verdictGiven, showCode, showAnswer, outcomeOf, stepOf, Steps};
-ghost use Rattle.panel.specs.Handed.{momentFound, Replies};
+ghost use Rattle.panel.specs.Handed.{momentFound, handedOn, Replies};
 
 // The least buffer that may be lent for a reply, and for the reply of show, in bytes.
 const LEAST_ROOM: usize = 96;
@@ -58,13 +58,9 @@ fn answer_weighed(w: Weighed, out: &mut [u8]) -> Replied
     requires { ⌜ 96 ≤ length (now out) ⌝ }
     ensures { λ r. ⌜ Replies (weighedCode w) (answerReply (weighedCode w)) (weighedMoment w) r (now (out .entry)) (now (out .exit)) ⌝ }
 {
-    let code = operations::weighed_code(w);
-    let len = reply::answer(out, code);
-    Replied {
-        code,
-        len,
-        moment: total::weighed_moment(w),
-    }
+    let mut r = answer_with(operations::weighed_code(w), out);
+    r.moment = total::weighed_moment(w);
+    r
 }
 
 // Total replies `(answer 00 W)`.
@@ -151,7 +147,7 @@ fn reply_to(c: Condition, line: &[u8], r: Request, out: &mut [u8]) -> Replied
 // The reply to a line and what was heard of it, at the front of the lent buffer.
 pub fn answer(c: Condition, line: &[u8], h: Heard, out: &mut [u8]) -> Replied
     requires { ⌜ h ≡ heardOf (now line) ⌝ }
-    ensures { λ r. ⌜ Replies (stepOf c (now (line .entry)) (length (now (out .entry))) .code) (stepOf c (now (line .entry)) (length (now (out .entry))) .reply) (momentFound (h .request)) r (now (out .entry)) (now (out .exit)) ⌝ }
+    ensures { λ r. ⌜ Replies (stepOf c (now (line .entry)) (length (now (out .entry))) .code) (stepOf c (now (line .entry)) (length (now (out .entry))) .reply) (handedOn h (length (now (out .entry)))) r (now (out .entry)) (now (out .exit)) ⌝ }
 {
     if out.len() < LEAST_ROOM {
         return Replied {

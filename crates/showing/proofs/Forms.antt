@@ -21,7 +21,7 @@ use Rattle.forms.specs.declared.Kind.the-variants.{ShipLine, ColumnLine, LoadLi
 use Rattle.forms.specs.declared.Request.{Request}
 use Rattle.forms.specs.Shape.{plain, ruleNamed, shipBy, ship?, column?, load?, modeNamed, partsBy, parts?, hold?, drop?, bare?, formWord, formBy, form?}
 use Rattle.request.specs.Shape.{show?, line?, requestOf}
-use Rattle.showing.specs.Laws.{OfDocument01, ship, column, load, hold, drop, judge, clear, ShowOf, TakenAsTotal}
+use Rattle.showing.specs.Laws.{OfDocument01, ship, column, load, hold, drop, judge, clear, ShowOf, TakenAsTotal, TotalOnly}
 use Rattle.showing.proofs.Framing.{clash, form-frames}
 
 -- ---- what a form yields
@@ -215,6 +215,14 @@ total-found ts k =
     by a k (a-form e) = absurd (omega (arith, sort-01 (form-kind ts a [] e), ap sortOf k))
     by a k (a-show vs t e) = absurd (omega (arith, ap (λ (r : Request). sortOf (r .kind)) (show-reads vs a [] e .0), ap sortOf k))
     by a k (a-total vs t e) = t ∙ ap (λ l. opened ∷ run (bytes "total") ∷ l) (total-reads vs a [] e .1)
+
+pub total-only : TotalOnly
+unfolding requestOf line? head? open? run? bare? close? same
+total-only [] more = refl
+total-only (opened ∷ ts) more = refl
+total-only (run r ∷ ts) more = refl
+total-only (closed ∷ []) more = absurd (more refl)
+total-only (closed ∷ t ∷ ts) more = refl
 
 pub taken-as-total : TakenAsTotal
 unfolding requestOf line? head? open? run? bare? close? same

@@ -12,7 +12,7 @@ use Rattle.line_codes.specs.declared.Reading.the-variants.{Sound}
 use Rattle.line_codes.specs.Line.{readingOf}
 use Rattle.spelling.specs.Spelling.{spell, bracketGaps}
 use Rattle.forms.specs.declared.Kind.{Kind}
-use Rattle.forms.specs.declared.Kind.the-variants.{ShipLine, ColumnLine, LoadLine, HoldLine, DropLine, JudgeLine, ClearLine, ShowLine, TotalLine}
+use Rattle.forms.specs.declared.Kind.the-variants.{ShipLine, ColumnLine, LoadLine, HoldLine, DropLine, JudgeLine, ClearLine, ShowLine, TotalLine, NoShape}
 use Rattle.request.specs.Shape.{requestOf}
 use Rattle.showing.specs.Show.{formInside, showReply}
 
@@ -60,6 +60,10 @@ SpelledIsSound =
 abbrev pub SpelledAsksTheSame : Type 0
 SpelledAsksTheSame = (line : List ℕ) (form : List Token) → ShowOf (tokens line) form → requestOf (tokens (spell form)) ≡ requestOf form
 
--- document 02, P4: a line is taken as total exactly where it is `(total)`, whatever the spaces: not with items, and not inside a show
+-- document 02, P4: a line is taken as total exactly where it is `(total)`, whatever the spaces
 abbrev pub TakenAsTotal : Type 0
 TakenAsTotal = (ts : List Token) → (requestOf ts .kind ≡ TotalLine) ↔ (ts ≡ opened ∷ run (bytes "total") ∷ closed ∷ [])
+
+-- with anything else behind its word it has no shape
+abbrev pub TotalOnly : Type 0
+TotalOnly = (behind : List Token) → (behind ≡ closed ∷ [] → ⊥) → requestOf (opened ∷ run (bytes "total") ∷ behind) .kind ≡ NoShape

@@ -1,9 +1,11 @@
 -- `answer_line`: one line and what was heard of it: its reply goes behind those that wait.
+use mathlib.Core.Path.{_∙_}
 use Prim.Native.Nat.{_-_, _≤_}
 use native.Mathlib.Omega.{arith}
 use lib.ListN.{length, take, drop, length-drop}
 use lib.Seq.{length-take-le}
 use Rattle.reply.proofs.Writing.{over-fits}
+use Rattle.panel.proofs.Answers.{handed-room}
 use Rattle.panel.proofs.Room.{any-room}
 use Rattle.lines.proofs.Taking.{reply-waits}
 use borrow.Author.Needs.{needs}
@@ -27,7 +29,7 @@ returns c =
     rw (← a)
     (record {
       coded = e .coded;
-      moment = e .moment;
+      moment = e .moment ∙ handed-room (args .h) (length part) (omega arith);
       room = omega (arith, e .long, w, m, pre);
       waits = rw (e .written) (reply-waits l part _ _ n _ (omega (arith, pre)) (e .long));
     })

@@ -59,7 +59,7 @@ loop-again c =
     let l = c .before .before .before .before .before .before .before .before .before .before .before .before .before .before .before .loop in
     let args = c .before .before .before .before .before .before .before .before .before .before .before .before .before .before .before .before .before .before .before .args in
     let t = between (args .block .now) (l .i) (e .result) in
-    let d = answer-effect (l .c) t 2100 (h .result) (h .ensures) (a .result .code) (a .ensures .coded) (c .before .before .if3 .taken) (a .result .moment) (a .ensures .moment (c .before .before .if3 .taken)) (c .effect .result) (c .effect .ensures) in
+    let d = answer-effect (l .c) t 2100 (h .result) (h .ensures) (a .result .code) (a .ensures .coded) (c .before .before .if3 .taken) (a .result .moment) (a .ensures .moment) (c .effect .result) (c .effect .ensures) in
     (rw (c .before .before .before .before .behind .ensures .0) (taking-line (l .inv .0) (e .result) (e .ensures .0) (omega (arith, if2 .left)) (omega (arith, loop-test .taken)) _ _ d refl (a .ensures .waits) (a .ensures .room) (a .kept .1 .1 .1 .0 ∙ l .inv .0 .sized)), l .inv .1)
 
 loop-less-2 : tie.Need-loop-less-2 Inv-loop μ-loop

@@ -1,9 +1,9 @@
 -- `answer`: the reply to a line and what was heard of it, at the front of the lent buffer.
 use mathlib.Core.Path.{refl, sym, _∙_}
-use native.Mathlib.Omega.{arith}
+use Prim.Native.Nat.{_≤_}
 use lib.ListN.{length}
 use Rattle.reply.specs.Written.{over}
-use Rattle.panel.proofs.Answers.{step-none, step-refused, step-request, heard-asks, heard-short}
+use Rattle.panel.proofs.Answers.{handed-room, handed-none, handed-refused, step-none, step-refused, step-request, heard-asks, heard-short}
 use borrow.Author.Needs.{needs}
 use Rattle.panel.proofs.answer.Statement.{statement}
 use Rattle.panel.proofs.answer.Tie as tie
@@ -12,7 +12,7 @@ returns : tie.Need-returns
 unfolding over
 returns c =
     let k = c .before .before .before .args in
-    rw (step-none (k .c) (k .line .now) (length (k .out .now)) (search needs)) (record { coded = refl; long = refl; moment = λ z. absurd (omega arith); written = refl })
+    rw (step-none (k .c) (k .line .now) (length (k .out .now)) (search needs)) (record { coded = refl; long = refl; moment = sym (handed-none (k .h) (length (k .out .now)) (search needs)); written = refl })
 
 returns-2 : tie.Need-returns-2
 returns-2 c =
@@ -20,7 +20,7 @@ returns-2 c =
     let k = t .before .before .before .before in
     let a = c .before .before .answer-with .ensures in
     rw (step-refused (k .args .c) (k .args .line .now) (length (k .args .out .now)) (k .args .h) (k .pre) (search needs) (t .if2 .taken))
-    (record { coded = a .coded; long = a .long; moment = λ z. absurd (t .if2 .taken (sym (a .coded) ∙ z)); written = a .written })
+    (record { coded = a .coded; long = a .long; moment = a .moment ∙ sym (handed-refused (k .args .line .now) (k .args .h) (k .pre) (t .if2 .taken) (length (k .args .out .now))); written = a .written })
 
 reply-to-requires : tie.Need-reply-to-requires
 reply-to-requires c κs =
@@ -33,7 +33,9 @@ returns-3 : tie.Need-returns-3
 returns-3 c =
     let t = c .before .before .before .before .before in
     let k = t .before .before .before .before in
-    rw (step-request (k .args .c) (k .args .line .now) (length (k .args .out .now)) (k .args .h) (k .pre) (search needs) (t .if2 .left)) (c .before .before .reply-to .ensures)
+    let room : 96 ≤ length (k .args .out .now) = search needs in
+    rw (step-request (k .args .c) (k .args .line .now) (length (k .args .out .now)) (k .args .h) (k .pre) room (t .if2 .left), handed-room (k .args .h) (length (k .args .out .now)) room)
+    (c .before .before .reply-to .ensures)
 
 pub answer-spec : {M : Type 1} → statement M
 answer-spec =

@@ -6,9 +6,8 @@ use Rattle.panel.proofs.answer_weighed.Tie as tie
 returns : tie.Need-returns
 returns c =
     let k = c .before .before .before in
-    let e = k .before .before .weighed-code .ensures in
-    let a = rw e at (k .answer .ensures) in
-    record { coded = e; long = a .0; moment = λ z. c .weighed-moment .ensures; written = a .1 }
+    let a = rw (k .before .before .weighed-code .ensures) at (k .answer-with .ensures) in
+    record { coded = a .coded; long = a .long; moment = c .weighed-moment .ensures; written = a .written }
 
 pub answer-weighed-spec : {M : Type 1} → statement M
 answer-weighed-spec =

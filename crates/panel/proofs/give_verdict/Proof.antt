@@ -17,7 +17,7 @@ returns : tie.Need-returns
 returns c =
     let k = c .before .before .before .before .before in
     rw (sym (k .before .before .judge .ensures) ∙ k .j .given .1)
-    (record { coded = refl; long = c .before .before .refusal .ensures .0; moment = λ z. refl; written = c .before .before .refusal .ensures .1 })
+    (record { coded = refl; long = c .before .before .refusal .ensures .0; moment = refl; written = c .before .before .refusal .ensures .1 })
 
 returns-2 : tie.Need-returns-2
 returns-2 c =
@@ -30,7 +30,7 @@ returns-2 c =
     let w = rw (e, toZ-ofZ {w = w64} {z = v .gm} f1, toZ-ofZ {w = w64} {z = v .diff} f2) at (c .before .before .verdict .ensures) in
     let k = m .before .before in
     rw (sym (k .before .before .judge .ensures) ∙ k .j2 .given .1)
-    (record { coded = e; long = w .0; moment = λ z. refl; written = w .1 })
+    (record { coded = e; long = w .0; moment = refl; written = w .1 })
 
 pub give-verdict-spec : {M : Type 1} → statement M
 give-verdict-spec =

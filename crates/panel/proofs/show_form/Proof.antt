@@ -21,7 +21,7 @@ returns-2 : tie.Need-returns-2
 returns-2 c =
     let k = c .before .before .before .before .before .before .before in
     let s = c .before .before .show in
-    rw (le-ltb (length (k .args .out .now)) 2100 (search needs)) (record { coded = refl; long = s .ensures .0; moment = λ z. refl; written = s .ensures .1 })
+    rw (le-ltb (length (k .args .out .now)) 2100 (search needs)) (record { coded = refl; long = s .ensures .0; moment = refl; written = s .ensures .1 })
 
 pub show-form-spec : {M : Type 1} → statement M
 show-form-spec =

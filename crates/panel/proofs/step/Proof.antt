@@ -18,7 +18,7 @@ returns-2 c =
     let a = c .before .before .before .before .before .answer in
     let m = c .before .before .before .before .before .before .before in
     let k = m .before .before .before .args in
-    let done = answer-effect (k .c) (k .line .now) (length (k .out .now)) (m .hear .result) (m .hear .ensures) (a .result .code) (a .ensures .coded) (c .before .before .if1 .left) (a .result .moment) (a .ensures .moment (c .before .before .if1 .left)) (c .effect .result) (c .effect .ensures) in
+    let done = answer-effect (k .c) (k .line .now) (length (k .out .now)) (m .hear .result) (m .hear .ensures) (a .result .code) (a .ensures .coded) (c .before .before .if1 .left) (a .result .moment) (a .ensures .moment) (c .effect .result) (c .effect .ensures) in
     record { condition = done; coded = a .ensures .coded; long = a .ensures .long; written = a .ensures .written }
 
 pub step-spec : {M : Type 1} → statement M
