@@ -305,6 +305,14 @@ new: effectBy c ClearLine h k w = clearedOf c
 file: crates/effects/proofs/effect/Proof.antt
 old: (c .empty-condition .ensures)
 new: (c .cleared .ensures)
+file: crates/effects/proofs/cleared/Proof.antt
+new: use borrow.Author.Needs.{needs}
+new: use Rattle.effects.proofs.cleared.Statement.{statement}
+new: use Rattle.effects.proofs.cleared.Tie as tie
+new: returns : tie.Need-returns
+new: returns c = rw (c .empty-condition .ensures)
+new: pub cleared-spec : {M : Type 1} → statement M
+new: cleared-spec = tie.close (tie.spec (λ c κs. search needs) returns)
 file: crates/panel/specs/Step.antt
 old: use Rattle.condition.specs.Condition.{empty}
 new: use Rattle.effects.specs.Effect.{clearedOf}
@@ -328,6 +336,15 @@ old: use Prim.Native.Nat.{ℕ}
 new: use Prim.Native.Nat.{ℕ, min}
 old: reply = totalReply (c .total)
 new: reply = totalReply (min (c .total) 1000000000)
+file: crates/panel/proofs/show_total/Proof.antt
+new: use mathlib.Core.Path.{refl}
+new: use borrow.Author.Needs.{needs}
+new: use Rattle.panel.proofs.show_total.Statement.{statement}
+new: use Rattle.panel.proofs.show_total.Tie as tie
+new: returns : tie.Need-returns
+new: returns c = let t = rw (c .before .before .before .smaller .ensures) at (c .before .before .total .ensures) in record { coded = refl; long = t .0; moment = refl; written = t .1 }
+new: pub show-total-spec : {M : Type 1} → statement M
+new: show-total-spec = tie.close (tie.spec (λ c κs. search needs) (λ c κs. search needs) (λ c. search needs) returns)
 """
 
 

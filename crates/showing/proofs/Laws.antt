@@ -4,7 +4,7 @@ use mathlib.Core.Bool.{Bool, true, false, cond}
 use mathlib.Core.List.{List, [], _∷_, _++_, append-nil}
 use Prim.Native.Nat.{ℕ, _+_, _-_, _≤_}
 use native.Mathlib.Omega.{arith}
-use lib.ListN.{length, length-append}
+use lib.ListN.{length, take, length-append}
 use lib.Seq.{take-append-add}
 use Rattle.whole.specs.Bytes.{bytes}
 use Rattle.whole.specs.Lists.{all}
@@ -38,7 +38,7 @@ unfolding formInside
 inside-is-the-form ts form w =
     let n = length-append form (closed ∷ []) in
     let l : length (opened ∷ run (bytes "show") ∷ form ++ closed ∷ []) - 3 ≡ length form + 0 = omega arith in
-    rw (w .0, l, take-append-add form (closed ∷ []) 0) (append-nil form)
+    ap formInside (w .0) ∙ ap (λ (k : ℕ). take k (form ++ closed ∷ [])) l ∙ take-append-add form (closed ∷ []) 0 ∙ append-nil form
 
 pub forms-have-few-gaps : FormsHaveFewGaps
 forms-have-few-gaps form k = let a = asked-form form k in form-gaps form (a .0) (a .1)
