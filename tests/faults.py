@@ -71,10 +71,36 @@ file: crates/panel/src/lib.rt
 old: const LEAST_ROOM: usize = 96;
 new: const LEAST_ROOM: usize = 128;
 file: crates/panel/proofs/Answers.antt
+old: handed-room : (h : Heard) (n : ℕ) → 96 ≤ n →
+new: handed-room : (h : Heard) (n : ℕ) → 128 ≤ n →
+old: handed-room h n p = rw (le-ltb n 96 p)
+new: handed-room h n p = rw (le-ltb n 128 p)
+old: handed-none : (h : Heard) (n : ℕ) → n < 96 →
+new: handed-none : (h : Heard) (n : ℕ) → n < 128 →
+old: handed-none h n p = rw (lt-ltb n 96 p)
+new: handed-none h n p = rw (lt-ltb n 128 p)
 old: step-none : n < 96 →
 new: step-none : n < 128 →
-old: lt-ltb n 96 p
-new: lt-ltb n 128 p
+old: step-none p = rw (lt-ltb n 96 p)
+new: step-none p = rw (lt-ltb n 128 p)
+old: lent-room : stepOf c line n .code ≡ 0 → 96 ≤ n
+new: lent-room : stepOf c line n .code ≡ 0 → 128 ≤ n
+old: lent-room e = by (ltb n 96) refl
+new: lent-room e = by (ltb n 128) refl
+old: by : (x : Bool) → ltb n 96 ≡ x → 96 ≤ n
+new: by : (x : Bool) → ltb n 128 ≡ x → 128 ≤ n
+old: step-none (ltb-true n 96 t)
+new: step-none (ltb-true n 128 t)
+old: by false t = ltb-false n 96 t
+new: by false t = ltb-false n 128 t
+old: nothing-by line TooLong f n = none-of (ltb n 96)
+new: nothing-by line TooLong f n = none-of (ltb n 128)
+old: nothing-by line BadByte f n = none-of (ltb n 96)
+new: nothing-by line BadByte f n = none-of (ltb n 128)
+old: nothing-by line NotOneForm f n = none-of (ltb n 96)
+new: nothing-by line NotOneForm f n = none-of (ltb n 128)
+old: nothing-by line BadNumber f n = none-of (ltb n 96)
+new: nothing-by line BadNumber f n = none-of (ltb n 128)
 old: step-heard : 96 ≤ n →
 new: step-heard : 128 ≤ n →
 old: step-heard p = rw (le-ltb n 96 p
@@ -93,6 +119,9 @@ new: (ltb lent 128)
 file: crates/panel/proofs/Room.antt
 old: le-ltb n 96 (omega arith)
 new: le-ltb n 128 (omega arith)
+file: crates/panel/proofs/answer/Proof.antt
+old: let room : 96 ≤ length
+new: let room : 128 ≤ length
 """
 
 SHOW_ROOM_2200 = """
