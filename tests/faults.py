@@ -283,8 +283,8 @@ file: crates/storing/specs/Storing.antt
 old:       total = exchanged (c .total) (holdAt c n) w;
 new:       total = exchanged (c .total) h w;
 file: crates/storing/proofs/with_hold/Proof.antt
-old: (c .exchange .ensures ∙ ap (λ (h : Hold). exchanged (before .total) h (args .moment)) (sym there)))
-new: (c .exchange .ensures))
+old:     let figure = c .exchange .ensures ∙ ap (λ (h : Hold). exchanged (before .total) h (args .moment)) (sym there) in
+new:     let figure = c .exchange .ensures in
 """
 
 DROP_PUTS_ON = """

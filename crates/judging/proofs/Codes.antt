@@ -1,6 +1,6 @@
 -- Each of 30 to 34 is given exactly where the paper's words give it.
 use mathlib.Core.Path.{_≡_, refl, sym, ap, _∙_}
-use mathlib.Core.Bool.{Bool, true, false}
+use mathlib.Core.Bool.{Bool, true, false, cond}
 use mathlib.Core.List.{List, [], _∷_}
 use mathlib.Core.Logic.{_↔_, _⊎_, inl, inr, ⊎-elim}
 use Prim.Native.Nat.{ℕ, _≤_, _<_}
@@ -21,6 +21,7 @@ use Rattle.stability.specs.declared.Judgement.the-variants.{Passed, ShortOfGm, 
 use Rattle.stability.specs.Verdict.{judgementCode, verdictOf}
 use Rattle.columns.proofs.Standing.{below-outside, above-outside}
 use Rattle.condition.specs.declared.Condition.{Condition}
+use Rattle.judging.specs.declared.Judged.{Judged}
 use Rattle.judging.specs.declared.Judged.the-variants.{Refused, Given}
 use Rattle.total.specs.Total.{weight}
 use Rattle.judging.specs.Judge.{basisAt, judgedAt, judgedOf, judgedCode}
@@ -81,17 +82,21 @@ module _ (c : Condition) (w : LimitsMet c) where
           ⊎-elim (below-first (c .load .d) columns (w .columns) two) (above-last (c .load .d) columns (w .columns) two) o in
           rw (s, w .ship s, le-leb 2 (length columns) two, w .columns, l, w .load l, e)
 
+  -- the verdict between the columns i and i + 1, or 34
+  abbrev chosen : (i : ℕ) → Bool → Judged
+  chosen i x = cond x (Given (verdictOf (c .ship) (basisAt c i))) (Refused 34)
+
   module _ (r : Ready c) where
     too-heavy : 1000000000 < weight c → judgedOf c ≡ Refused 34
     too-heavy h =
         let a = ready-around c w r in
-        ready-judged c w r ∙ ap (judgedAt c) (a .1) ∙ rw (lt-leb (c .total) 1000000000 (omega (arith, w .total)))
+        ready-judged c w r ∙ ap (judgedAt c) (a .1) ∙ ap (chosen (a .0)) (lt-leb (c .total) 1000000000 (omega (arith, w .total)))
 
     judged : weight c ≤ 1000000000 → (n : ℕ) → 30 ≤ n → n ≤ 34 → code ≡ n → ⊥
     judged h n p q e =
         let a = ready-around c w r in
         let v = verdictOf (c .ship) (basisAt c (a .0)) in
-        let g : judgedOf c ≡ Given v = ready-judged c w r ∙ ap (judgedAt c) (a .1) ∙ rw (le-leb (c .total) 1000000000 (omega (arith, w .total))) in
+        let g : judgedOf c ≡ Given v = ready-judged c w r ∙ ap (judgedAt c) (a .1) ∙ ap (chosen (a .0)) (le-leb (c .total) 1000000000 (omega (arith, w .total))) in
         judgement-other (v .judgement) n p q (sym (ap judgedCode g) ∙ e)
 
   -- ---- the cases, each with the codes that it excludes

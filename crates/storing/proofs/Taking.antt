@@ -5,7 +5,7 @@ use mathlib.Core.List.{List}
 use Prim.Native.Nat.{ℕ, _-_, _≤_, _<_}
 use native.Mathlib.Omega.{arith}
 use lib.Dec.{leb}
-use lib.ListN.{length, getD, set}
+use lib.ListN.{length, getD}
 use borrow.Author.Tests.{leb-false}
 use Rattle.whole.proofs.Lists.{within-true, getD-any}
 use Rattle.record.specs.declared.Column.{Column}
@@ -16,7 +16,6 @@ use Rattle.limits.specs.Limits.{columnLimits, placeLimits}
 use Rattle.columns.specs.declared.Added.{Added}
 use Rattle.columns.specs.declared.Added.the-variants.{Taken, Limits, Full, NotAbove}
 use Rattle.columns.specs.Columns.{isAbove, columnAnswer}
-use Rattle.condition.specs.declared.Condition.{Condition}
 
 -- what the answer 00 says of the three tests of a column: of its limits, of twenty held, of its D
 abbrev Says : (inside full above : Bool) → Added → Type 0
@@ -51,16 +50,3 @@ place-within n e =
 -- hold n, by its place
 pub place-any : (hs : List Hold) (n : ℕ) → length hs ≡ 16 → (1 ≤ n) × (n ≤ 16) → getD hs (n - 1) noHold ≡ getD hs (n - 1) pastHold
 place-any hs n l w = getD-any hs (n - 1) noHold pastHold (omega (arith, w .0, w .1))
-
--- a hold in its place, and this figure
-abbrev pub withFigure : Condition → (n : ℕ) → Hold → (figure : ℕ) → Condition
-withFigure c n h figure =
-    record {
-      shipped = c .shipped;
-      ship = c .ship;
-      loaded = c .loaded;
-      load = c .load;
-      columns = c .columns;
-      holds = set (c .holds) (n - 1) h;
-      total = figure;
-    }

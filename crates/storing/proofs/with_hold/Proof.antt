@@ -6,7 +6,7 @@ use borrow.Author.Tests.{not-true, not-false}
 use Rattle.whole.proofs.Lists.{unmapped}
 use Rattle.record.specs.declared.Hold.{Hold}
 use Rattle.total.specs.Total.{exchanged}
-use Rattle.storing.proofs.Taking.{place-within, place-any, withFigure}
+use Rattle.storing.proofs.Taking.{place-within, place-any}
 use borrow.Author.Needs.{needs}
 use Rattle.storing.proofs.with_hold.Statement.{statement}
 use Rattle.storing.proofs.with_hold.Tie as tie
@@ -36,7 +36,8 @@ returns-2 c =
     let l : length (before .holds) ≡ 16 = search (unmapped, needs, sixteen) in
     let e = sym (k .before .place-limits .ensures) ∙ not-false _ (k .if1 .left) in
     let there = place-any (before .holds) (args .n) l (place-within (args .n) e) in
-    rw e (ap (withFigure before (args .n) (args .h)) (c .exchange .ensures ∙ ap (λ (h : Hold). exchanged (before .total) h (args .moment)) (sym there)))
+    let figure = c .exchange .ensures ∙ ap (λ (h : Hold). exchanged (before .total) h (args .moment)) (sym there) in
+    rw e cc
 
 pub with-hold-spec : {M : Type 1} → statement M
 with-hold-spec =
