@@ -1,15 +1,17 @@
 """Whether the gate's lines reach every code, the figures next to the limits, each thing that show can do, each way in
-which void and grain of a partly filled part lie and each change of the holds behind which a total can stand, by the
-reference's replies."""
+which void and grain of a partly filled part lie, each change of the holds behind which a total can stand, and what
+weighings.py seeks of the items, by the reference's replies."""
 
 import math
 import re
 from collections import Counter
 
 import support
+import weighings
+from lines import code_of, depth, first_word, is_shown, word_and_number
 from support import run_program, split_lines
 
-CODES = ["00", "10", "11", "12", "13", "14", "20", "21", "22", "23", "24",
+CODES = ["00", "10", "11", "12", "13", "14", "20", "21", "22", "23", "24", "26", "27",
          "30", "31", "32", "33", "34", "40", "41", "42", "43"]
 FORMS = ["ship", "column", "load", "hold", "drop", "clear"]
 MOST_WEIGHT_MOMENT = 1_000_000_000
@@ -90,8 +92,7 @@ SOUGHT_OF_TOTALS = (
 
 # A show that is not the outer form.
 SHOW_WITHIN = re.compile(rb" *\( *\( *show[ (]")
-# The first word of the outer form, and the number behind it; a total with an item behind it; a total in a show.
-FORM = re.compile(rb" *\( *([a-z]+)(?![a-z0-9])(?: +(\d{1,9})(?!\d))?")
+# A total with an item behind it; a total in a show.
 TOTAL_WITH = {
     "a number": re.compile(rb" *\( *total +\d"),
     "a word": re.compile(rb" *\( *total +[a-z]"),
@@ -113,16 +114,17 @@ def check_codes(results):
         for seed in support.GATE_SEEDS:
             data = support.generated(kind, seed, support.GATE_COUNT)
             byte_values.update(data)
-            before, holds = None, Holds(kind)
+            before, holds, items = None, Holds(kind), weighings.Items(kind)
             for line, reply in zip(split_lines(data), run_program(reference, data).replies()):
                 found.update(names_of(line, reply))
                 found.update(names_of_decks(kind, line, reply))
                 found.update(holds.names_of_total(line, reply))
+                found.update(items.names_of(line, reply))
                 if line == before:
                     found[f"reply sent as the next line, with code {code_of(reply)}"] += 1
                 before = reply
                 longest = max(longest, len(reply))
-    for name in SOUGHT + SOUGHT_OF_SHOW + SOUGHT_OF_DECKS + SOUGHT_OF_TOTALS:
+    for name in SOUGHT + SOUGHT_OF_SHOW + SOUGHT_OF_DECKS + SOUGHT_OF_TOTALS + weighings.SOUGHT:
         results.report(f"reached {name} ({found[name]} times)", None if found[name] else "never")
     missing = sorted(set(range(256)) - byte_values)
     results.report("reached every byte value", f"not {missing}" if missing else None)
@@ -143,20 +145,6 @@ def names_of(line, reply):
     if b"sho" in line:
         names += names_of_refused_show(line, code)
     return names + names_of_length(len(line), code)
-
-
-def is_shown(reply):
-    """Whether a reply is a form that was shown: every other one begins with one of two words."""
-    return not reply.startswith((b"(answer ", b"(verdict "))
-
-
-def code_of(reply):
-    """The code that the caller gets with a reply."""
-    return "00" if is_shown(reply) else reply.decode().strip("()").split()[1]
-
-
-def first_word(line):
-    return line.strip(b" (").split(b" ")[0].split(b"(")[0].strip(b")").decode("latin-1")
 
 
 def names_of_shown(line, reply):
@@ -196,15 +184,6 @@ def names_of_refused_show(line, code):
     elif deep == 5:
         names.append(f"five deep, first word {word if word in ('sho', 'shown', 'showw') else 'other'}, with code {code}")
     return names
-
-
-def depth(line):
-    """How deep a line is nested, if its brackets pair."""
-    deepest = opened = 0
-    for byte in line:
-        opened += (byte == ord("(")) - (byte == ord(")"))
-        deepest = max(deepest, opened)
-    return deepest
 
 
 def names_of_figures(code, gm, diff, upper, area):
@@ -353,12 +332,6 @@ class Holds:
         if word == "clear":
             return ["a shown clear of holds"] if self.held else []
         return [f"a shown {word}"]
-
-
-def word_and_number(line):
-    """The first item of the outer form, if it is a word, and the number behind it, if there is one."""
-    form = FORM.match(line)
-    return (form[1].decode(), int(form[2]) if form[2] else None) if form else (None, None)
 
 
 def names_of_refused_total(line, code):

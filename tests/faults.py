@@ -297,14 +297,7 @@ new: (withHold c n noHold (c .total))
 file: crates/operations/specs/Operations.antt
 old: (withHold c n noHold 0)
 new: (withHold c n noHold (c .total))
-file: crates/operations/proofs/Codes.antt
-old: (withHold c n noHold 0)
-new: (withHold c n noHold (c .total))
 file: crates/operations/proofs/Effects.antt
-old: (cond (isHeld (holdAt c n)) (taken (withHold c n noHold 0)) (refusedWith 24 c)) (refusedWith 20 c)
-new: (cond (isHeld (holdAt c n)) (taken (withHold c n noHold (c .total))) (refusedWith 24 c)) (refusedWith 20 c)
-old: (t .0, passed (isHeld (holdAt c n)) (taken (withHold c n noHold 0))
-new: (t .0, passed (isHeld (holdAt c n)) (taken (withHold c n noHold (c .total)))
 old: dropOperation c n ≡ taken (withHold c n noHold 0)
 new: dropOperation c n ≡ taken (withHold c n noHold (c .total))
 old: withHold c n noHold 0 ≡ dropOperation c n .after
@@ -316,37 +309,68 @@ old: (at-place n noHold 0 p long), other-places n noHold 0 p
 new: (at-place n noHold (c .total) p long), other-places n noHold (c .total) p
 """
 
-CLEAR_KEEPS = """
+def clear_keeps(field):
+    """A clear that leaves one field of the condition as it was."""
+    fields = ("shipped", "ship", "loaded", "load", "columns", "holds", "total", "sums")
+    after = "; ".join(f"{name} = {'c' if name == field else 'empty'} .{name}" for name in fields)
+    return f"""
 file: crates/effects/src/lib.rt
-old: ghost use Rattle.effects.specs.Effect.{effectOf};
-new: ghost use Rattle.effects.specs.Effect.{effectOf, clearedOf};
+old: ghost use Rattle.effects.specs.Effect.{{weighingEffect, effectOf}};
+new: ghost use Rattle.effects.specs.Effect.{{weighingEffect, effectOf, clearedOf}};
 old: pub fn effect(c: Condition, r: Request, moment: u64) -> Condition
-new: fn cleared(c: Condition) -> Condition ensures { λ a. ⌜ a ≡ clearedOf c ⌝ } { let mut e = condition::empty_condition(); e.total = c.total; e } pub fn effect(c: Condition, r: Request, moment: u64) -> Condition
+new: fn cleared(c: Condition) -> Condition ensures {{ λ a. ⌜ a ≡ clearedOf c ⌝ }} {{ let kept = c.{field}; let mut e = condition::empty_condition(); e.{field} = kept; e }} pub fn effect(c: Condition, r: Request, moment: u64) -> Condition
 old:         Kind::ClearLine => condition::empty_condition(),
 new:         Kind::ClearLine => cleared(c),
 file: crates/effects/specs/Effect.antt
 old: -- what a request puts into the condition, w being the moment of its hold. It is taken only where the request is answered with 00; elsewhere its value is free,
 new: abbrev pub clearedOf : Condition → Condition
 old: -- and these are the simplest
-new: clearedOf c = record { shipped = empty .shipped; ship = empty .ship; loaded = empty .loaded; load = empty .load; columns = empty .columns; holds = empty .holds; total = c .total }
+new: clearedOf c = record {{ {after} }}
 old: effectBy c ClearLine h k w = empty
 new: effectBy c ClearLine h k w = clearedOf c
 file: crates/effects/proofs/effect/Proof.antt
 old: (c .empty-condition .ensures)
 new: (c .cleared .ensures)
 file: crates/effects/proofs/cleared/Proof.antt
-new: use borrow.Author.Needs.{needs}
-new: use Rattle.effects.proofs.cleared.Statement.{statement}
+new: use borrow.Author.Needs.{{needs}}
+new: use Rattle.effects.proofs.cleared.Statement.{{statement}}
 new: use Rattle.effects.proofs.cleared.Tie as tie
 new: returns : tie.Need-returns
 new: returns c = rw (c .empty-condition .ensures)
-new: pub cleared-spec : {M : Type 1} → statement M
+new: pub cleared-spec : {{M : Type 1}} → statement M
 new: cleared-spec = tie.close (tie.spec (λ c κs. search needs) returns)
 file: crates/panel/specs/Step.antt
-old: use Rattle.condition.specs.Condition.{empty}
-new: use Rattle.effects.specs.Effect.{clearedOf}
+old: use Rattle.condition.specs.Condition.{{empty}}
+new: use Rattle.effects.specs.Effect.{{clearedOf}}
 old: outcomeBy c ts n ClearLine h k = answered (taken empty)
 new: outcomeBy c ts n ClearLine h k = answered (taken (clearedOf c))
+"""
+
+
+KG_OF_ZERO = """
+file: crates/weights/src/lib.rt
+old:     if n == 0 {
+new:     if d == 0 {
+file: crates/weights/specs/Weights.antt
+old: use Prim.Native.Nat.{ℕ, _+_, _*_, min, max}
+new: use Prim.Native.Nat.{ℕ, _+_, _*_, _-_, min, max}
+old: max 1 (ceilDiv
+new: max (1 - s .tonnes) (ceilDiv
+file: crates/weights/proofs/weighed_kg/Proof.antt
+old: kg-none (c .before .before .args .s)
+new: kg-undivided (c .before .before .args .s)
+old: (omega (arith, c .before .before .if2 .left)) (omega (arith, c .before .before .before .if1 .left))
+new: (omega (arith, c .before .before .if2 .left))
+file: crates/weights/proofs/Weights.antt
+old: kg-up : 0 < s .products → s .products
+new: kg-up : s .products
+old: kg-up h m = omega (arith, up-least h,
+new: kg-up m = omega (arith, pd,
+file: crates/weights/proofs/Items.antt
+old: kg-rounded h = kg-up s some h
+new: kg-rounded h = kg-up s some
+old: (kg-up s some p l)
+new: (kg-up s some l)
 """
 
 TOTAL_CAPPED = """
@@ -405,10 +429,17 @@ FAULTS = {
     "replaced_stays_in": Fault("the moment of a replaced or dropped hold stays in the figure, that of the new one is taken off", [("", REPLACED_STAYS_IN)]),
     "new_moment_not_put_on": Fault("the moment of a new hold is not put on", [edit("total", "theorem_new_moment_not_put_on")]),
     "drop_puts_on": Fault("a drop puts the figure on once more", [("", DROP_PUTS_ON)]),
-    "clear_keeps_the_figure": Fault("a clear keeps the figure", [("", CLEAR_KEEPS)]),
+    "clear_keeps_the_figure": Fault("a clear keeps the figure", [("", clear_keeps("total"))]),
     "empty_with_a_moment": Fault("a panel newly started or cleared has a moment of 1", [edit("condition", "theorem_empty_with_a_moment")]),
     "ship_forgets_the_figure": Fault("a new ship forgets the figure", [edit("storing", "theorem_ship_forgets_the_figure")]),
     "total_capped": Fault("total shows at most 1,000,000,000", [("", TOTAL_CAPPED)]),
+    "clear_keeps_the_items": Fault("a clear keeps the weight items", [("", clear_keeps("sums"))]),
+    "empty_with_items": Fault("a panel newly started or cleared has a tonne", [edit("condition", "theorem_empty_with_items")]),
+    "load_removes_the_items": Fault("a load line, and weighed, remove the weight items", [edit("storing", "theorem_load_removes_the_items")]),
+    "unweigh_keeps_the_products": Fault("an unweigh keeps the products", [edit("operations", "theorem_unweigh_keeps_the_products")]),
+    "sum_of_400001": Fault("weight items together up to 400,001 tonnes", [edit("weights", "theorem_sum_of_400001")]),
+    "kg_of_zero": Fault("a KG of 0 made by weighed is stored", [("", KG_OF_ZERO)]),
+    "26_as_25": Fault("25 for a sum above 400,000 tonnes", [edit("operations", "theorem_26_as_25")]),
     "voided_100": Fault("100 per cent for `voided`", [edit("grain", "theorem_voided_100")]),
     "sine_of_40": Fault("the sine of 40 degrees 642,700", [edit("arms", "theorem_sine_of_40")]),
     "42_beyond_upper": Fault("42 also for an angle above UPPER", [edit("stability", "theorem_42_beyond_upper", UPPER_IN_LAWS)]),

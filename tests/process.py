@@ -139,6 +139,73 @@ def totals():
     return data, b"".join(b"(answer %02d)\n" % code + b"(answer 00 %d)\n" % total * 2 for _, code, total in turns)
 
 
+# Columns between which GM tells D and DIFF tells KG: KM is 1 mm for each tonne up to 50,000 t, and falls by 0.1 mm for each
+# beyond. With KN 0 throughout, UPPER and AREA are 0.
+WEIGHED_SHIP = b"(ship old 9000 9000)\n" + b"".join(
+    b"(column %d %d (0 0 0 0 0 0 0 0 0 0))\n" % column for column in [(100, 100), (50_000, 50_000), (400_000, 15_000)])
+
+
+def verdict_of(d, kg):
+    """The judge's reply to a load of these, with FS 0, under these columns."""
+    km = 1_000 * d if d <= 50_000 else 50_000_000 - 100 * (d - 50_000)
+    gm, arm = km - 1_000 * kg, -(-kg * 207_912 // 1_000)
+    return b"(verdict %d %d %d 0 0)\n" % (40 if gm < 300_000 else 41, gm, -arm)
+
+
+def weighings():
+    """A weighed line and a judge behind each line that adds or removes items, or is turned down or concerns none. Each
+    line has its code and the tonnes and products together behind it."""
+    turns = [
+        (b"(unweigh)", 0, 0, 0),
+        (b"(weight 99 0)", 0, 99, 0),
+        (b"(weight 1 0)", 0, 100, 0),
+        (b"(weight 1 101)", 0, 101, 101),
+        (b"(weight 1 1)", 0, 102, 102),
+        (b"(weight 1 2)", 0, 103, 104),
+        (b"(weight 399998 50000)", 26, 103, 104),
+        (b"(weight 399898 50001)", 20, 103, 104),
+        (b"(weight 0 50000)", 20, 103, 104),
+        (b"(weight 1)", 14, 103, 104),
+        (b"(weight 007 1)", 13, 103, 104),
+        (b"(show (unweigh))", 14, 103, 104),
+        (b"(unweigh 1)", 14, 103, 104),
+        (b"(unweigh", 12, 103, 104),
+        (b"(load 25000 8000 100)", 0, 103, 104),
+        (b"(hold 2 trimmed 12500 (part 1 (void 1 0 0)))", 0, 103, 104),
+        (b"(drop 2)", 0, 103, 104),
+        (b"(ship old 9000 9000)", 0, 103, 104),
+        (b"(column 399999 1 (0 0 0 0 0 0 0 0 0 0))", 22, 103, 104),
+        (b"(weighed 10001)", 20, 103, 104),
+        (b"(weight 49896 50000)", 0, 49_999, 104 + 49_896 * 50_000),
+        (b"(weight 350000 50000)", 0, 399_999, 104 + 399_896 * 50_000),
+        (b"(weight 2 0)", 26, 399_999, 104 + 399_896 * 50_000),
+        (b"(weight 1 0)", 0, 400_000, 104 + 399_896 * 50_000),
+        (b"(weight 1 0)", 26, 400_000, 104 + 399_896 * 50_000),
+        (b"(unweigh)", 0, 0, 0),
+        (b"(weight 400000 50000)", 0, 400_000, 400_000 * 50_000),
+        (b"(clear)\n" + WEIGHED_SHIP[:-1], 0, 0, 0),
+        (b"(weight 400000 1)", 0, 400_000, 400_000),
+    ]
+    data, right, load = WEIGHED_SHIP, b"(answer 00)\n" * 4, None
+    for line, code, tonnes, products in turns:
+        data += line + b"\n ( weighed 0 ) \n(judge)\n"
+        right += b"(answer %02d)\n" % code * (1 + line.count(b"\n"))
+        if tonnes >= 100:
+            load = verdict_of(tonnes, max(1, -(-products // tonnes)))
+        elif line.startswith(b"(clear)"):
+            load = None
+        right += b"(answer %02d)\n" % (0 if tonnes >= 100 else 27) + (load or b"(verdict 32)\n")
+    return data, right
+
+
+def many_items():
+    """As many items of 16 tonnes as there may be, each at a height of its own; then one too many."""
+    heights = range(0, 50_000, 2)
+    data = WEIGHED_SHIP + b"".join(b"(weight 16 %d)\n" % height for height in heights)
+    right = b"(answer 00)\n" * (4 + len(heights)) + b"(answer 26)\n(answer 00)\n" + verdict_of(400_000, 24_999)
+    return data + b"(weight 1 0)\n(weighed 0)\n(judge)\n", right
+
+
 INPUTS = [
     ("worked run", WORKED_RUN, WORKED_REPLIES),
     ("worked run without a final byte 10", WORKED_RUN[:-1], WORKED_REPLIES),
@@ -155,6 +222,8 @@ INPUTS = [
     ("the longest reply of show", *longest_show()),
     ("many of the longest replies of show", *longest_shows()),
     ("totals", *totals()),
+    ("weighings", *weighings()),
+    ("many items", *many_items()),
     ("show lines between judges", b"(judge)\n(judge)\n(show(judge))\n" * 100_000,
      b"(verdict 30)\n(verdict 30)\n(judge)\n" * 100_000),
 ]

@@ -47,6 +47,15 @@ impl Chance {
         choices[self.below(choices.len())]
     }
 
+    /// The same things in an order by chance.
+    pub fn shuffled<T>(&mut self, mut things: Vec<T>) -> Vec<T> {
+        let mut shuffled = Vec::new();
+        while !things.is_empty() {
+            shuffled.push(things.swap_remove(self.below(things.len())));
+        }
+        shuffled
+    }
+
     /// A number from `low` to `high` that is often at or next to a limit, or small.
     pub fn odd(&mut self, low: i128, high: i128) -> i128 {
         let near = |value: i128| value.clamp(low, high);

@@ -1,10 +1,12 @@
 //! Damaged lines: every fault that codes 10 to 14 name, alone and several in one line, between lines that hold.
 
 use crate::chance::Chance;
+use crate::edge_weighings;
 use crate::edges;
 use crate::runs;
-use crate::spelling::{self, CLEAR, JUDGE, TOTAL};
+use crate::spelling::{self, CLEAR, JUDGE, TOTAL, UNWEIGH};
 use crate::wanted;
+use crate::weighings;
 
 type Fault = fn(&mut Chance, Vec<u8>) -> Vec<u8>;
 
@@ -37,23 +39,62 @@ const FAULTS: [Fault; 26] = [
     spaced_to_a_length,
 ];
 
-/// Damaged lines between valid ones, with judges and totals that show that the condition is as it was.
+/// Damaged lines between valid ones, with judges, totals and weighed lines that show that the condition is as it was.
 pub fn damaged_run(chance: &mut Chance) -> Vec<Vec<u8>> {
-    let mut lines: Vec<Vec<u8>> = Vec::new();
-    if chance.one_in(3) {
-        lines.extend(wanted::condition_that_shows_weight().lines().into_iter().map(String::into_bytes));
+    if chance.one_in(8) {
+        return damaged_weighings(chance);
     }
+    let before = match chance.below(12) {
+        0..=3 => wanted::condition_that_shows_weight().lines(),
+        4 => edge_weighings::weighed_ship(chance),
+        _ => Vec::new(),
+    };
+    let mut lines = into_bytes(before);
     let valid = if chance.one_in(2) { runs::run(chance) } else { edges::edge(chance) };
     for line in valid {
         if chance.one_in(4) {
             lines.push(line.clone());
         }
+        let telling = telling(chance, &line);
         lines.push(damaged(chance, line));
-        match chance.below(9) {
-            0 => lines.push(JUDGE.as_bytes().to_vec()),
-            1 | 2 => lines.push(TOTAL.as_bytes().to_vec()),
-            _ => {}
-        }
+        lines.extend(into_bytes(telling));
+    }
+    lines
+}
+
+fn into_bytes(lines: Vec<String>) -> Vec<Vec<u8>> {
+    lines.into_iter().map(String::into_bytes).collect()
+}
+
+/// What tells, behind a damaged line, whether it changed something after all: now and then a judge, and as it is about
+/// holds or about items, rather a total or a weighed line.
+fn telling(chance: &mut Chance, line: &[u8]) -> Vec<String> {
+    let (totals, weighings) = match spelling::pieces(line).get(1) {
+        Some(&b"hold") => (3, 0),
+        Some(&b"drop") => (5, 0),
+        Some(&b"clear") => (5, 2),
+        Some(&(b"weight" | b"weighed" | b"unweigh")) => (1, 3),
+        _ => (2, 0),
+    };
+    match chance.below(12) {
+        0 => vec![JUDGE.to_string()],
+        place if place <= totals => vec![TOTAL.to_string()],
+        place if place <= totals + weighings => weighed_and_judged(chance),
+        _ => Vec::new(),
+    }
+}
+
+fn weighed_and_judged(chance: &mut Chance) -> Vec<String> {
+    vec![spelling::weighed(weighings::likely_fs(chance)), JUDGE.to_string()]
+}
+
+/// A weighed ship, and damaged lines that would add items, weigh or remove them, each with a weighed line behind it.
+fn damaged_weighings(chance: &mut Chance) -> Vec<Vec<u8>> {
+    let mut lines = into_bytes(edge_weighings::weighed_ship(chance));
+    for _ in 0..6 {
+        let line = chance.pick(&[CLEAR, CLEAR, UNWEIGH, UNWEIGH, "(weight 500 500)", "(weighed 0)"]);
+        lines.push(damaged(chance, line.as_bytes().to_vec()));
+        lines.extend(into_bytes(weighed_and_judged(chance)));
     }
     lines
 }
@@ -267,7 +308,8 @@ fn other_word(chance: &mut Chance, line: Vec<u8>) -> Vec<u8> {
     with_piece(chance, &line, is_word, |chance, pieces, place| {
         let words: &[&[u8]] = &[
             b"ship", b"column", b"load", b"hold", b"drop", b"judge", b"clear", b"new", b"old", b"trimmed", b"voided",
-            b"partial", b"part", b"wing", b"hatch", b"void", b"answer", b"verdict", b"show", b"total",
+            b"partial", b"part", b"wing", b"hatch", b"void", b"answer", b"verdict", b"show", b"total", b"weight",
+            b"weighed", b"unweigh",
         ];
         pieces[place] = chance.pick(words).to_vec();
     })
@@ -301,6 +343,7 @@ fn item_between(chance: &mut Chance, line: Vec<u8>) -> Vec<u8> {
                 b"((1))",
                 b"(judge)",
                 b"(total)",
+                b"(unweigh)",
             ];
             pieces.insert(place, chance.pick(items).to_vec());
         },
@@ -341,8 +384,22 @@ fn line_cut(chance: &mut Chance, mut line: Vec<u8>) -> Vec<u8> {
     line
 }
 
-const OUTSIDE: [&[u8]; 13] =
-    [b"a", b"0", b"(", b")", b"()", b"judge", b"total", b" x ", b"  7", b"00", b";", b"\t", b"\xef\xbb\xbf"];
+const OUTSIDE: [&[u8]; 14] = [
+    b"a",
+    b"0",
+    b"(",
+    b")",
+    b"()",
+    b"judge",
+    b"total",
+    b"unweigh",
+    b" x ",
+    b"  7",
+    b"00",
+    b";",
+    b"\t",
+    b"\xef\xbb\xbf",
+];
 
 fn text_outside(chance: &mut Chance, line: Vec<u8>) -> Vec<u8> {
     let text = chance.pick(&OUTSIDE).to_vec();
@@ -354,7 +411,7 @@ fn text_outside(chance: &mut Chance, line: Vec<u8>) -> Vec<u8> {
 }
 
 fn two_forms(chance: &mut Chance, line: Vec<u8>) -> Vec<u8> {
-    let other: &[u8] = chance.pick(&[b"(clear)".as_slice(), b"(judge)", b"(total)", b" (drop 1)", b"()"]);
+    let other: &[u8] = chance.pick(&[b"(clear)".as_slice(), b"(judge)", b"(total)", b"(unweigh)", b" (drop 1)", b"()"]);
     if chance.one_in(2) {
         [line.as_slice(), other].concat()
     } else {
@@ -382,7 +439,7 @@ fn spaced_to_a_length(chance: &mut Chance, mut line: Vec<u8>) -> Vec<u8> {
         20..=29 => 2_001,
         30..=37 => 1_990 + chance.below(30),
         38 => 2_100 + chance.below(6_000),
-        _ if chance.one_in(5) => 60_000 + chance.below(80_000),
+        _ if chance.one_in(3) => 60_000 + chance.below(80_000),
         _ => 4_096 + chance.below(9_000),
     };
     if line.len() >= length {
@@ -398,7 +455,7 @@ fn spaced_to_a_length(chance: &mut Chance, mut line: Vec<u8>) -> Vec<u8> {
 }
 
 /// Lines that no change of a good line brings about.
-const FAULTY_LINES: [&[u8]; 37] = [
+const FAULTY_LINES: [&[u8]; 42] = [
     b"",
     b" ",
     b"     ",
@@ -414,7 +471,6 @@ const FAULTY_LINES: [&[u8]; 37] = [
     b"(clear",
     b"(drop 00",
     b"(judge 00 A)",
-    b"(unweigh)",
     b"(0)",
     b"(00)",
     b"(12ab)",
@@ -430,6 +486,12 @@ const FAULTY_LINES: [&[u8]; 37] = [
     b"(total)\r",
     b"(TOTAL)",
     b"(total 00 A)",
+    b"unweigh",
+    b"(unweigh",
+    b"(unweigh)\r",
+    b"(weight 007 1)",
+    b"(weight 1 1",
+    b"(weighed 00 A)",
     b"(show)",
     b"(show (a (b (c (d)))))",
     b"(show (a (b (c (01)))))",
@@ -440,7 +502,7 @@ const FAULTY_LINES: [&[u8]; 37] = [
 
 /// Lines that are no form's spelling at all, and the smallest forms.
 fn faulty_from_the_start(chance: &mut Chance) -> Vec<u8> {
-    match chance.below(6) {
+    match chance.below(7) {
         0 => {
             let length = chance.below(40);
             (0..length).map(|_| any_byte(chance)).collect()
@@ -453,10 +515,14 @@ fn faulty_from_the_start(chance: &mut Chance) -> Vec<u8> {
             // One long line of a good or bad sort, its length at or next to 2,000 bytes.
             let length = 1_999 + chance.below(3);
             let filler = chance.pick(b" a1(\r");
-            let mut line = chance.pick(&[CLEAR, TOTAL, "(drop 1)", "", "("]).as_bytes().to_vec();
+            let mut line = chance
+                .pick(&[CLEAR, TOTAL, UNWEIGH, "(weight 1 1)", "(weighed 0)", "(drop 1)", "", "("])
+                .as_bytes()
+                .to_vec();
             line.resize(length, filler);
             line
         }
+        3 => weighings::turned_down(chance).into_bytes(),
         _ => chance.pick(&FAULTY_LINES).to_vec(),
     }
 }

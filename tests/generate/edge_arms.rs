@@ -73,7 +73,7 @@ fn judge_with_ship(lines: &mut Vec<String>, ship: Ship, condition: Option<Wanted
 }
 
 /// Ten DIFFs by chance; the first is not free and is left 0.
-fn diffs_by_chance(chance: &mut Chance, low: i128, high: i128) -> Diffs {
+pub fn diffs_by_chance(chance: &mut Chance, low: i128, high: i128) -> Diffs {
     let mut diffs = [0; 10];
     for diff in &mut diffs[1..] {
         *diff = chance.between(low, high);

@@ -15,12 +15,7 @@ const HEAVIEST: Part = Part::PartlyFilled { length: 60_000, breadth: 40_000, voi
 
 /// The numbers of the sixteen holds in an order by chance.
 fn numbers(chance: &mut Chance) -> Vec<i128> {
-    let mut left: Vec<i128> = (1..=HOLD_COUNT).collect();
-    let mut numbers = Vec::new();
-    while !left.is_empty() {
-        numbers.push(left.swap_remove(chance.below(left.len())));
-    }
-    numbers
+    chance.shuffled((1..=HOLD_COUNT).collect())
 }
 
 /// Any hold, often one that fits, under this number.

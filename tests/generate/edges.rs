@@ -6,14 +6,16 @@ use crate::edge_decks;
 use crate::edge_figures;
 use crate::edge_totals;
 use crate::edge_voids;
+use crate::edge_weighings;
 use crate::shows;
 use crate::spelling;
 use crate::totals;
+use crate::weighings;
 
 type Family = fn(&mut Chance) -> Vec<String>;
 
 /// Single fields have a greater share, since there are many of them.
-const FAMILIES: [Family; 41] = [
+const FAMILIES: [Family; 51] = [
     edge_figures::field_limits,
     edge_figures::field_limits,
     edge_figures::field_limits,
@@ -55,12 +57,23 @@ const FAMILIES: [Family; 41] = [
     edge_totals::replaced_by_one_more,
     edge_totals::totals_that_stay,
     edge_totals::totals_turned_down,
+    edge_weighings::fields,
+    edge_weighings::sums_at_the_most,
+    edge_weighings::sums_at_the_least,
+    edge_weighings::kg_next_to_whole,
+    edge_weighings::kg_least_and_greatest,
+    edge_weighings::products_at_powers,
+    edge_weighings::displacements_at_columns,
+    edge_weighings::gm_at_the_limit,
+    edge_weighings::items_that_stay,
+    edge_weighings::turned_down,
 ];
 
 /// The lines of one family of limits.
 pub fn edge(chance: &mut Chance) -> Vec<Vec<u8>> {
     let family = chance.pick(&FAMILIES);
     let lines = family(chance);
+    let lines = weighings::in_place_of_loads(chance, lines, 8);
     let lines = totals::with_totals(chance, lines, 4);
     let lines = lines.iter().map(|line| spelling::respaced(chance, line)).collect();
     shows::with_shows(chance, lines)

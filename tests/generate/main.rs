@@ -4,7 +4,7 @@
 //! - `edges`: figures next to each limit
 //! - `damaged`: lines with every kind of fault
 //! - `mixed`: all of these, damaged lines between valid ones
-//! - `shows`: show lines, with totals between them; about one in ten lines of the other kinds is a show line too
+//! - `shows`: show lines, with totals and weighings between them; about one in ten lines of the other kinds is a show line too
 //!
 //! COUNT lines are written, each ended by byte 10. The reference's own modules find the figures next to a limit.
 
@@ -15,6 +15,7 @@ mod edge_decks;
 mod edge_figures;
 mod edge_totals;
 mod edge_voids;
+mod edge_weighings;
 mod edges;
 mod records;
 mod runs;
@@ -23,6 +24,7 @@ mod shows;
 mod spelling;
 mod totals;
 mod wanted;
+mod weighings;
 
 #[path = "../reference/arms.rs"]
 mod arms;
@@ -47,6 +49,8 @@ mod rounding;
 mod shape;
 #[path = "../reference/show.rs"]
 mod show;
+#[path = "../reference/weights.rs"]
+mod weights;
 
 use std::io::{self, BufWriter, Write};
 use std::process::ExitCode;

@@ -5,8 +5,9 @@ use crate::damage;
 use crate::records;
 use crate::shape::Column;
 use crate::shows;
-use crate::spelling::{self, CLEAR, JUDGE};
+use crate::spelling::{self, CLEAR, JUDGE, UNWEIGH};
 use crate::totals;
+use crate::weighings;
 
 /// One run: most often a clear, a ship with its columns, load and holds, then changes with judges between them.
 pub fn run(chance: &mut Chance) -> Vec<Vec<u8>> {
@@ -22,7 +23,9 @@ pub fn run(chance: &mut Chance) -> Vec<Vec<u8>> {
     }
     records.extend(columns.iter().map(spelling::column));
     if !chance.one_in(15) {
-        records.push(load(chance, likely, &columns));
+        // Now and then the load comes before ship and columns.
+        let place = if chance.one_in(6) { 0 } else { records.len() };
+        records.splice(place..place, load(chance, likely, &columns));
     }
     let mut sent = Vec::new();
     for _ in 0..chance.below(5) {
@@ -42,9 +45,10 @@ pub fn run(chance: &mut Chance) -> Vec<Vec<u8>> {
     }
     lines.push(JUDGE.to_string());
     for _ in 0..chance.below(10) {
-        lines.push(change(chance, likely, &columns, &mut sent));
+        lines.extend(change(chance, likely, &columns, &mut sent));
         lines.push(JUDGE.to_string());
     }
+    let lines = weighings::with_weighed(chance, lines);
     let lines = totals::with_totals(chance, lines, 2);
     let lines = lines.iter().map(|line| spoilt_or_respaced(chance, line)).collect();
     shows::with_shows(chance, lines)
@@ -70,14 +74,39 @@ fn columns(chance: &mut Chance, likely: bool) -> Vec<Column> {
     columns
 }
 
-fn load(chance: &mut Chance, likely: bool, columns: &[Column]) -> String {
+/// A load line; or, one in four, the lines that weigh this load, now and then on top of the items that are there.
+fn load(chance: &mut Chance, likely: bool, columns: &[Column]) -> Vec<String> {
     let in_order = columns.len() > 1 && columns[0].d < columns[columns.len() - 1].d;
     let load = match (in_order, likely) {
         (true, true) => records::likely_load(chance, columns),
         (true, false) => records::odd_load(chance, columns),
         (false, _) => records::odd_load(chance, &[]),
     };
-    spelling::load(&load)
+    if !chance.one_in(4) {
+        return vec![spelling::load(&load)];
+    }
+    let mut lines = weighings::weighing(chance, &load);
+    if chance.one_in(4) {
+        lines.retain(|line| line != UNWEIGH);
+    }
+    lines
+}
+
+/// Some items more, as parcels come aboard, and as a rule the load weighed anew.
+fn parcels(chance: &mut Chance, likely: bool) -> Vec<String> {
+    let mut lines = Vec::new();
+    for _ in 0..1 + chance.below(3) {
+        let item = if likely { weighings::likely_item(chance) } else { weighings::odd_item(chance) };
+        lines.push(spelling::weight(&item));
+        if chance.one_in(8) {
+            // Two parcels alike count as two.
+            lines.push(spelling::weight(&item));
+        }
+    }
+    if !chance.one_in(4) {
+        lines.push(spelling::weighed(weighings::likely_fs(chance)));
+    }
+    lines
 }
 
 /// A hold, one in four under the number of one that was sent before.
@@ -96,9 +125,10 @@ fn drop(chance: &mut Chance, sent: &[i128]) -> String {
     spelling::drop(if is_sent { chance.pick(sent) } else { chance.odd(1, 16) })
 }
 
-/// One further record or a drop, as a condition is altered between two judges. The numbers are those of the holds sent.
-fn change(chance: &mut Chance, likely: bool, columns: &[Column], sent: &mut Vec<i128>) -> String {
-    match chance.below(20) {
+/// A further record, a drop or a weighing, as a condition is altered between two judges. The numbers are those of the
+/// holds sent.
+fn change(chance: &mut Chance, likely: bool, columns: &[Column], sent: &mut Vec<i128>) -> Vec<String> {
+    let line = match chance.below(23) {
         0 if chance.one_in(2) => CLEAR.to_string(),
         0 => too_heavy_a_hold(chance),
         1 | 2 => ship(chance, likely),
@@ -109,11 +139,14 @@ fn change(chance: &mut Chance, likely: bool, columns: &[Column], sent: &mut Vec<
             }
             spelling::column(&extra)
         }
-        4..=8 => load(chance, likely, columns),
+        4..=8 => return load(chance, likely, columns),
         9..=11 => drop(chance, sent),
         12 => hold(chance, false, sent),
+        13 | 14 => return parcels(chance, likely),
+        15 => UNWEIGH.to_string(),
         _ => hold(chance, likely, sent),
-    }
+    };
+    vec![line]
 }
 
 /// A hold that alone has more than 1,000,000,000 kg·m (34).

@@ -4,8 +4,10 @@ use crate::chance::Chance;
 use crate::damage;
 use crate::line::{self, LONGEST_LINE};
 use crate::records;
+use crate::shape::Item;
 use crate::show;
-use crate::spelling::{self, CLEAR, JUDGE, TOTAL};
+use crate::spelling::{self, CLEAR, JUDGE, TOTAL, UNWEIGH};
+use crate::weighings;
 
 /// Words that are nearly `show`, and others: no line that begins with one of them may be five deep.
 const OTHER_WORDS: [&str; 12] =
@@ -64,7 +66,8 @@ pub fn with_shows(chance: &mut Chance, lines: Vec<Vec<u8>>) -> Vec<Vec<u8>> {
     all
 }
 
-/// Show lines, most of them taken. There is no condition, and none comes about: a total now and then tells.
+/// Show lines, most of them taken. No hold and no verdict comes about: a total now and then tells. Items are taken and
+/// removed between them.
 pub fn alone(chance: &mut Chance) -> Vec<Vec<u8>> {
     let line = match chance.below(20) {
         0 => turned_down(chance),
@@ -79,7 +82,24 @@ pub fn alone(chance: &mut Chance) -> Vec<Vec<u8>> {
     if chance.one_in(10) {
         lines.push(spaced(chance, TOTAL.as_bytes()));
     }
+    if chance.one_in(15) {
+        let weighing = weighing(chance);
+        lines.push(spaced(chance, weighing.as_bytes()));
+    }
     lines
+}
+
+/// A line that adds an item, weighs the items or removes them. Without a ship only 26 and 27 tell their sum, and these
+/// tonnes bring it next to both.
+fn weighing(chance: &mut Chance) -> String {
+    match chance.below(6) {
+        0..=2 => {
+            let tonnes = chance.pick(&[1, 1, 49, 98, 99, 100, 399_900, 400_000]);
+            spelling::weight(&Item { tonnes, height: chance.odd(0, weighings::HIGHEST) })
+        }
+        3 | 4 => spelling::weighed(chance.odd(0, 10_000)),
+        _ => UNWEIGH.to_string(),
+    }
 }
 
 /// A line's form as show replies with it; a line that has no form stays as it is.
@@ -240,7 +260,8 @@ fn filled(chance: &mut Chance, line: Vec<u8>) -> Vec<u8> {
 fn turned_down(chance: &mut Chance) -> Vec<u8> {
     let form = if chance.one_in(2) { record(chance) } else { any_form(chance) };
     let line = match chance.below(12) {
-        0..=2 => chance.pick(&NO_FORM).to_string(),
+        0 | 1 => chance.pick(&NO_FORM).to_string(),
+        2 => chance.pick(&weighings::SHOWN_WEIGHING).to_string(),
         3 => format!("(show {form} {})", any_form(chance)),
         4 => format!("(show (show {form}))"),
         5 => format!("({} {form})", chance.pick(&OTHER_WORDS)),

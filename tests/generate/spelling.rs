@@ -2,11 +2,12 @@
 
 use crate::chance::Chance;
 use crate::line::LONGEST_LINE;
-use crate::shape::{Cell, Column, Hold, Load, Mode, Part, Rule, Ship};
+use crate::shape::{Cell, Column, Hold, Item, Load, Mode, Part, Rule, Ship};
 
 pub const JUDGE: &str = "(judge)";
 pub const CLEAR: &str = "(clear)";
 pub const TOTAL: &str = "(total)";
+pub const UNWEIGH: &str = "(unweigh)";
 
 pub fn ship(ship: &Ship) -> String {
     let rule = match ship.rule {
@@ -55,6 +56,14 @@ fn cell(cell: &Cell) -> String {
 
 pub fn drop(n: i128) -> String {
     format!("(drop {n})")
+}
+
+pub fn weight(item: &Item) -> String {
+    format!("(weight {} {})", item.tonnes, item.height)
+}
+
+pub fn weighed(fs: i128) -> String {
+    format!("(weighed {fs})")
 }
 
 /// The brackets and runs of a line, any other byte than a space counted to the runs.

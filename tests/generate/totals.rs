@@ -61,7 +61,7 @@ pub fn with_totals(chance: &mut Chance, lines: Vec<String>, one_in: usize) -> Ve
         } else {
             chance.one_in(30)
         };
-        if about_holds && chance.one_in(20) {
+        if about_holds && chance.one_in(12) {
             all.extend([format!("(show {line})"), TOTAL.to_string()]);
         }
         all.push(line);

@@ -16,6 +16,8 @@ pub enum Code {
     ColumnNotAbove = 22,
     TwentyColumns = 23,
     NoSuchHold = 24,
+    TooManyTonnes = 26,
+    TooFewTonnes = 27,
     NoShip = 30,
     FewerThanTwoColumns = 31,
     NoLoad = 32,

@@ -1,6 +1,6 @@
 //! The limits of every number of a form: code 20.
 
-use crate::shape::{Cell, Column, Hold, Load, Part, Ship};
+use crate::shape::{Cell, Column, Hold, Item, Load, Part, Ship};
 
 /// The widest that the cells of a part may be together.
 const WIDEST_TOGETHER: i128 = 40_000;
@@ -24,7 +24,17 @@ pub fn column(column: &Column) -> bool {
 
 /// Whether D, KG and FS are within their limits.
 pub fn load(load: &Load) -> bool {
-    displacement(load.d) && within(load.kg, 1, 50_000) && within(load.fs, 0, 10_000)
+    displacement(load.d) && within(load.kg, 1, 50_000) && free_surface(load.fs)
+}
+
+/// Whether FS of a load or of a weighed line is within its limits.
+pub fn free_surface(fs: i128) -> bool {
+    within(fs, 0, 10_000)
+}
+
+/// Whether T and H are within their limits.
+pub fn item(item: &Item) -> bool {
+    within(item.tonnes, 1, 400_000) && within(item.height, 0, 50_000)
 }
 
 /// Whether N, SF and every number of every part are within their limits.
@@ -73,8 +83,11 @@ mod tests {
 
     /// Whether a line of a good shape is within its limits.
     fn within_limits(line: &str) -> bool {
-        let Ok(Request::Form(form)) = read(line.as_bytes()).and_then(request) else {
-            panic!("none of the seven forms: {line:?}");
+        let form = match read(line.as_bytes()).and_then(request) {
+            Ok(Request::Form(form)) => form,
+            Ok(Request::Weight(item)) => return super::item(&item),
+            Ok(Request::Weighed(fs)) => return super::free_surface(fs),
+            other => panic!("{other:?}: {line:?}"),
         };
         match form {
             Form::Ship(ship) => super::ship(&ship),
@@ -113,6 +126,13 @@ mod tests {
         field("(load 100 @ 0)", 1, 50_000);
         field("(load 100 1 @)", 0, 10_000);
         field("(drop @)", 1, 16);
+    }
+
+    #[test]
+    fn weight_and_weighed() {
+        field("(weight @ 0)", 1, 400_000);
+        field("(weight 1 @)", 0, 50_000);
+        field("(weighed @)", 0, 10_000);
     }
 
     #[test]

@@ -16,6 +16,7 @@ mod rounding;
 mod service;
 mod shape;
 mod show;
+mod weights;
 
 use std::process::ExitCode;
 

@@ -7,8 +7,9 @@ use crate::code::Code;
 use crate::grain;
 use crate::limits;
 use crate::line::{self, Tokens};
-use crate::shape::{self, Column, Form, Hold, Load, Request, Ship};
+use crate::shape::{self, Column, Form, Hold, Item, Load, Request, Ship};
 use crate::show::{self, LEAST_FOR_SHOW};
+use crate::weights::Weights;
 
 /// A lent reply buffer shorter than this is code 15.
 pub const LEAST_BUFFER: usize = 96;
@@ -25,6 +26,7 @@ pub struct Condition {
     columns: Vec<Column>,
     load: Option<Load>,
     weight_moments: [Option<i128>; HOLD_COUNT],
+    weights: Weights,
 }
 
 /// What the panel replies to a line.
@@ -59,6 +61,9 @@ impl Condition {
             Ok(Request::Show(_)) if lent < LEAST_FOR_SHOW => Reply::Answer(Code::ShortForShow),
             Ok(Request::Show(shown)) => Reply::Shown(shown),
             Ok(Request::Total) => Reply::Total(self.total_weight_moment()),
+            Ok(Request::Weight(item)) => Reply::answer(self.take_item(item)),
+            Ok(Request::Weighed(fs)) => Reply::answer(self.take_weighed_load(fs)),
+            Ok(Request::Unweigh) => Reply::answer(self.unweigh()),
             Err(code) => Reply::Answer(code),
         }
     }
@@ -73,7 +78,7 @@ impl Condition {
             Form::Drop(n) => self.drop_hold(n),
             Form::Clear => self.clear(),
         };
-        Reply::Answer(done.err().unwrap_or(Code::Done))
+        Reply::answer(done)
     }
 
     /// A new ship replaces the former one.
@@ -137,6 +142,29 @@ impl Condition {
         self.columns.clear();
         self.load = None;
         self.weight_moments = Default::default();
+        self.unweigh()
+    }
+
+    /// A further item; two alike are two.
+    fn take_item(&mut self, item: Item) -> Result<(), Code> {
+        if !limits::item(&item) {
+            return Err(Code::OutOfLimits);
+        }
+        self.weights.add(item)
+    }
+
+    /// The load that the items make replaces the former one; the items stay.
+    fn take_weighed_load(&mut self, fs: i128) -> Result<(), Code> {
+        if !limits::free_surface(fs) {
+            return Err(Code::OutOfLimits);
+        }
+        self.load = Some(self.weights.load(fs)?);
+        Ok(())
+    }
+
+    /// Removes all items, if there are any. The load stays.
+    fn unweigh(&mut self) -> Result<(), Code> {
+        self.weights.remove_all();
         Ok(())
     }
 
@@ -174,6 +202,11 @@ impl Condition {
 }
 
 impl Reply<'_> {
+    /// `(answer CC)` to a line that was taken, or turned down with a code.
+    fn answer(done: Result<(), Code>) -> Self {
+        Reply::Answer(done.err().unwrap_or(Code::Done))
+    }
+
     fn code(&self) -> Code {
         match self {
             Reply::Answer(code) | Reply::NoVerdict(code) => *code,
@@ -275,7 +308,7 @@ mod tests {
     fn fifteen_comes_before_everything_and_writes_nothing() {
         let mut condition = after(&RUN[..6]);
         let before = condition.clone();
-        for line in ["(clear)", "(judge)", "(total)", "A", ""] {
+        for line in ["(clear)", "(judge)", "(total)", "(weight 1 1)", "(weighed 0)", "(unweigh)", "A", ""] {
             let mut buffer = [b'#'; LEAST_BUFFER - 1];
             assert_eq!(condition.step(line.as_bytes(), &mut buffer), (Code::ShortBuffer, 0));
             assert_eq!(buffer, [b'#'; LEAST_BUFFER - 1]);
@@ -392,6 +425,169 @@ mod tests {
         assert_eq!(reply(&mut condition, "(total)"), "(answer 00 32089682912)\n");
         assert_eq!(code(&mut condition, "(drop 7)"), 0);
         assert_eq!(reply(&mut condition, "(total)"), "(answer 00 30084077730)\n");
+    }
+
+    /// Two items that make the load of the panel run, and the line that makes it of them.
+    const PARTS: [&str; 2] = ["(weight 20000 7000)", "(weight 5000 12000)"];
+    const WEIGHED: &str = "(weighed 100)";
+
+    /// The panel run without its load.
+    fn run_without_load() -> Condition {
+        after(&[&RUN[..3], &RUN[4..6]].concat())
+    }
+
+    #[test]
+    fn the_panel_run_with_a_weighed_load() {
+        let mut condition = run_without_load();
+        assert_eq!(code(&mut condition, WEIGHED), 27, "no items");
+        for line in PARTS {
+            assert_eq!(reply(&mut condition, line), "(answer 00)\n");
+            assert_eq!(code(&mut condition, "(judge)"), 32, "items alone are no load");
+        }
+        assert_eq!(reply(&mut condition, WEIGHED), "(answer 00)\n");
+        assert_eq!(condition.load, Some(Load { d: 25_000, kg: 8_000, fs: 100 }));
+        assert_eq!(reply(&mut condition, RUN[6]), VERDICT);
+        assert_eq!(reply(&mut condition, WEIGHED), "(answer 00)\n", "weighed keeps the items");
+        assert_eq!(reply(&mut condition, RUN[6]), VERDICT);
+    }
+
+    #[test]
+    fn a_weighed_load_replaces_the_former_one_and_is_replaced_by_a_load() {
+        let mut condition = after(&[&RUN[..6], &PARTS].concat());
+        assert_eq!(condition.load, Some(Load { d: 25_000, kg: 8_000, fs: 100 }), "weights leave the load");
+        for (line, d, kg, fs) in [
+            ("(load 20000 1 0)", 20_000, 1, 0),
+            (WEIGHED, 25_000, 8_000, 100),
+            ("(weighed 0)", 25_000, 8_000, 0),
+            ("(weight 1 8001)", 25_000, 8_000, 0),
+            ("(weighed 0)", 25_001, 8_001, 0),
+            ("(load 400000 50000 10000)", 400_000, 50_000, 10_000),
+            ("(weighed 10000)", 25_001, 8_001, 10_000),
+            ("(unweigh)", 25_001, 8_001, 10_000),
+        ] {
+            assert_eq!(reply(&mut condition, line), "(answer 00)\n", "{line}");
+            assert_eq!(condition.load, Some(Load { d, kg, fs }), "{line}");
+        }
+        assert_eq!(code(&mut condition, "(weighed 0)"), 27);
+    }
+
+    #[test]
+    fn twenty_comes_before_26_and_27() {
+        let mut condition = Condition::default();
+        assert_eq!(code(&mut condition, "(weighed 10001)"), 20, "and the sum is under 100");
+        assert_eq!(code(&mut condition, "(weighed 10000)"), 27);
+        assert_eq!(code(&mut condition, "(weight 399999 0)"), 0);
+        for line in ["(weight 2 50001)", "(weight 400001 0)", "(weight 0 0)", "(weight 999999999 999999999)"] {
+            assert_eq!(code(&mut condition, line), 20, "{line}");
+        }
+        assert_eq!(code(&mut condition, "(weight 2 50000)"), 26);
+        assert_eq!(code(&mut condition, "(weight 1 50000)"), 0);
+        assert_eq!(code(&mut condition, "(weight 1 0)"), 26);
+        assert_eq!(code(&mut condition, "(weighed 10001)"), 20);
+        assert_eq!(code(&mut condition, "(weighed 10000)"), 0);
+        // (399,999 × 0 + 50,000)/400,000 rounded up.
+        assert_eq!(condition.load, Some(Load { d: 400_000, kg: 1, fs: 10_000 }));
+    }
+
+    #[test]
+    fn twenty_seven_leaves_the_load() {
+        let mut condition = after(&[&RUN[..6], &["(weight 99 1)"]].concat());
+        assert_eq!(code(&mut condition, WEIGHED), 27);
+        assert_eq!(reply(&mut condition, RUN[6]), VERDICT);
+        assert_eq!(code(&mut condition, "(weight 1 1)"), 0);
+        assert_eq!(code(&mut condition, WEIGHED), 0);
+        assert_eq!(condition.load, Some(Load { d: 100, kg: 1, fs: 100 }));
+    }
+
+    #[test]
+    fn unweigh_and_clear_remove_all_items() {
+        for removal in ["(unweigh)", "(clear)"] {
+            let mut condition = after(&[PARTS[0], PARTS[1], WEIGHED, removal]);
+            assert_eq!(condition.weights, Weights::default(), "{removal}");
+            assert_eq!(code(&mut condition, WEIGHED), 27, "{removal}");
+            assert_eq!(code(&mut condition, removal), 0, "also where there are none");
+            // What was weighed before does not count any more, for 26 either.
+            for line in ["(weight 399900 3)", "(weight 100 3)", WEIGHED] {
+                assert_eq!(code(&mut condition, line), 0, "{line}");
+            }
+            assert_eq!(condition.load, Some(Load { d: 400_000, kg: 3, fs: 100 }));
+        }
+    }
+
+    #[test]
+    fn unweigh_leaves_all_else() {
+        let mut condition = after(&[&RUN[..6], &PARTS].concat());
+        assert_eq!(reply(&mut condition, "(unweigh)"), "(answer 00)\n");
+        assert_eq!(condition, after(&RUN[..6]));
+        assert_eq!(reply(&mut condition, "(unweigh)"), "(answer 00)\n");
+        assert_eq!(condition, after(&RUN[..6]));
+    }
+
+    #[test]
+    fn every_other_line_leaves_the_items() {
+        let mut condition = after(&[&RUN[..6], &PARTS].concat());
+        let items = condition.weights.clone();
+        for (line, number) in [
+            ("(ship old 1 1)", 0),
+            ("(ship new 0 1)", 20),
+            ("(column 40000 9000 (0 0 0 0 0 0 0 0 0 0))", 0),
+            ("(column 40000 9000 (0 0 0 0 0 0 0 0 0 0))", 22),
+            ("(column 99 9000 (0 0 0 0 0 0 0 0 0 0))", 20),
+            ("(load 20000 1 0)", 0),
+            ("(load 99 1 0)", 20),
+            ("(hold 1 partial 12500 (part 1 1 1 1))", 0),
+            ("(hold 1 trimmed 12500 (part 10000 (void 10000 500 1)))", 21),
+            ("(hold 17 partial 12500 (part 1 1 1 1))", 20),
+            ("(drop 1)", 0),
+            ("(drop 1)", 24),
+            ("(drop 17)", 20),
+            ("(judge)", 43),
+            ("(total)", 0),
+            ("(weighed 0)", 0),
+            ("(weighed 10001)", 20),
+            ("(weight 0 1)", 20),
+            ("(weight 1 50001)", 20),
+            ("(weight 375001 1)", 26),
+            ("(weight 400000 1)", 26),
+            ("(weight 1)", 14),
+            ("(weight 1 1 1)", 14),
+            ("(weight 01 1)", 13),
+            ("(weight 1 1", 12),
+            ("(Weight 1 1)", 11),
+            ("(unweigh 1)", 14),
+            ("(unweigh 01)", 13),
+            ("(unweigh", 12),
+            ("(unweigh)\r", 11),
+            ("(show (unweigh))", 14),
+            ("(show (weight 1 1))", 14),
+            ("(show (weighed 0))", 14),
+            ("(clear 1)", 14),
+            ("(clear", 12),
+            ("(clear)\r", 11),
+        ] {
+            assert_eq!(code(&mut condition, line), number, "{line}");
+            assert_eq!(condition.weights, items, "{line}");
+        }
+        for form in ["(clear)", "(load 100 1 0)", "(drop 2)"] {
+            assert_eq!(shown(&mut condition, &format!("(show {form})")), format!("{form}\n"));
+            assert_eq!(condition.weights, items, "{form} shown");
+        }
+        assert_eq!(code(&mut condition, WEIGHED), 0);
+        assert_eq!(condition.load, Some(Load { d: 25_000, kg: 8_000, fs: 100 }));
+    }
+
+    #[test]
+    fn a_weighed_load_of_400000_tonnes_and_one_of_100_are_judged() {
+        let columns = [100, 400_000].map(|d| format!("(column {d} 50000 (0 0 0 0 0 0 0 0 0 0))"));
+        let mut condition = after(&[RUN[0], &columns[0], &columns[1]]);
+        assert_eq!(code(&mut condition, "(weight 100 0)"), 0);
+        assert_eq!(code(&mut condition, "(weighed 0)"), 0);
+        // KG 1: 50,000 − 1 mm, and −0.207912 mm rounded down.
+        assert_eq!(reply(&mut condition, "(judge)"), "(verdict 41 49999000 -208 0 0)\n");
+        assert_eq!(code(&mut condition, "(weight 399900 50000)"), 0);
+        assert_eq!(code(&mut condition, "(weighed 0)"), 0);
+        // 399,900 × 50,000/400,000 is 49,987.5.
+        assert_eq!(reply(&mut condition, "(judge)").split(' ').nth(2), Some("12000"));
     }
 
     #[test]
@@ -550,6 +746,7 @@ mod tests {
                 ("(show)", 14),
                 ("(show (show (judge)))", 14),
                 ("(show (total))", 14),
+                ("(show (unweigh))", 14),
                 ("(show (a (b (c (d)))))", 14),
                 ("(show (drop 01))", 13),
                 ("(show (judge)", 12),

@@ -42,6 +42,13 @@ pub struct Load {
     pub fs: i128,
 }
 
+/// `(weight T H)` (document 02, P5)
+#[derive(Clone, Copy, Debug, PartialEq, Eq)]
+pub struct Item {
+    pub tonnes: i128,
+    pub height: i128,
+}
+
 #[derive(Clone, Copy, Debug, PartialEq, Eq)]
 pub enum Mode {
     Trimmed,
@@ -89,14 +96,20 @@ pub enum Form {
     Clear,
 }
 
-/// What a line asks for.
+/// What a line asks for. Those of document 02 are none of document 01's forms, so that show does not take them.
 #[derive(Clone, Debug, PartialEq, Eq)]
 pub enum Request<'a> {
     Form(Form),
     /// `(show FORM)`: the tokens of FORM, which has the shape of one of the seven.
     Show(Tokens<'a>),
-    /// `(total)` (document 02, P4). It is none of document 01's forms, so that show does not take it.
+    /// `(total)` (document 02, P4)
     Total,
+    /// `(weight T H)` (document 02, P5)
+    Weight(Item),
+    /// `(weighed FS)`
+    Weighed(i128),
+    /// `(unweigh)`
+    Unweigh,
 }
 
 impl Cell {
@@ -116,38 +129,32 @@ impl Cell {
 /// What a line's tokens ask for, or code 14. The tokens are those of one closed form.
 pub fn request(tokens: Tokens<'_>) -> Result<Request<'_>, Code> {
     let mut items = Items { tokens };
-    if tokens.begin_with(b"show") {
-        return show(&mut items);
-    }
-    if tokens.begin_with(b"total") {
-        return total(&mut items);
-    }
-    Ok(Request::Form(form(&mut items)?))
+    items.open()?;
+    let request = match items.word()? {
+        b"show" => Request::Show(shown(&mut items)?),
+        b"total" => Request::Total,
+        b"weight" => Request::Weight(Item { tonnes: items.number()?, height: items.number()? }),
+        b"weighed" => Request::Weighed(items.number()?),
+        b"unweigh" => Request::Unweigh,
+        word => Request::Form(form_behind(word, &mut items)?),
+    };
+    items.close()?;
+    Ok(request)
 }
 
-/// `show` and one of the seven forms.
-fn show<'a>(items: &mut Items<'a>) -> Result<Request<'a>, Code> {
-    items.open()?;
-    items.word()?;
+/// The tokens of what show is around: one of the seven forms.
+fn shown<'a>(items: &mut Items<'a>) -> Result<Tokens<'a>, Code> {
     let shown = items.tokens;
-    form(items)?;
-    let shown = shown.before(items.tokens);
+    items.open()?;
+    let word = items.word()?;
+    form_behind(word, items)?;
     items.close()?;
-    Ok(Request::Show(shown))
+    Ok(shown.before(items.tokens))
 }
 
-/// `total` alone.
-fn total<'a>(items: &mut Items<'a>) -> Result<Request<'a>, Code> {
-    items.open()?;
-    items.word()?;
-    items.close()?;
-    Ok(Request::Total)
-}
-
-/// One of the seven forms.
-fn form(items: &mut Items) -> Result<Form, Code> {
-    items.open()?;
-    let form = match items.word()? {
+/// One of the seven forms: what stands behind its word, up to its closing bracket.
+fn form_behind(word: &[u8], items: &mut Items) -> Result<Form, Code> {
+    let form = match word {
         b"ship" => Form::Ship(ship(items)?),
         b"column" => Form::Column(column(items)?),
         b"load" => Form::Load(load(items)?),
@@ -157,7 +164,6 @@ fn form(items: &mut Items) -> Result<Form, Code> {
         b"clear" => Form::Clear,
         _ => return Err(Code::NoSuchShape),
     };
-    items.close()?;
     Ok(form)
 }
 
@@ -396,7 +402,6 @@ mod tests {
             "(hold 1 trimmed 12500 (part 1 (void 1 1 1)) 5)",
             "(hold 1 filled 12500 (part 1 (void 1 1 1)))",
             "(hold 1 trimmed (part 1 (void 1 1 1)))",
-            "(unweigh)",
         ] {
             assert_eq!(read_form(line), Err(Code::NoSuchShape), "{line:?}");
         }
@@ -462,6 +467,14 @@ mod tests {
             "(show (total 1))",
             "(show (total) (judge))",
             "(show (judge) (total))",
+            "(show (weight 1 1))",
+            "(show(weight 0 0))",
+            "(show (weighed 0))",
+            "(show (unweigh))",
+            "(show unweigh)",
+            "(show weighed 0)",
+            "(show (unweigh) (judge))",
+            "(show (judge) (unweigh))",
             "(show (judge 1))",
             "(show (judge1))",
             "(show (drop))",
@@ -510,6 +523,63 @@ mod tests {
             "(clear (total))",
         ] {
             assert_eq!(read(line.as_bytes()).and_then(request), Err(Code::NoSuchShape), "{line:?}");
+        }
+    }
+
+    #[test]
+    fn weight_has_two_numbers_weighed_one_and_unweigh_none() {
+        let item = |tonnes: i128, height: i128| Ok(Request::Weight(Item { tonnes, height }));
+        for (line, wanted) in [
+            ("(weight 1 2)", item(1, 2)),
+            (" ( weight  0   999999999 ) ", item(0, 999_999_999)),
+            ("(weight 999999999 0)", item(999_999_999, 0)),
+            ("(weighed 0)", Ok(Request::Weighed(0))),
+            ("( weighed 999999999)", Ok(Request::Weighed(999_999_999))),
+            ("(unweigh)", Ok(Request::Unweigh)),
+            (" ( unweigh ) ", Ok(Request::Unweigh)),
+        ] {
+            assert_eq!(read(line.as_bytes()).and_then(request), wanted, "{line:?}");
+        }
+        for line in [
+            "(weight)",
+            "(weight 1)",
+            "(weight 1 2 3)",
+            "(weight a 2)",
+            "(weight 1 a)",
+            "(weight 1 a2)",
+            "(weight (1) 2)",
+            "(weight 1 (2))",
+            "(weight (1 2))",
+            "(weight 1 2 ())",
+            "(weight weight 1 2)",
+            "(weight1 2)",
+            "(1 weight 2)",
+            "(weigh 1 2)",
+            "(weights 1 2)",
+            "(weighed)",
+            "(weighed 1 2)",
+            "(weighed a)",
+            "(weighed (1))",
+            "(weighed ())",
+            "(weighed weighed)",
+            "(weighd 0)",
+            "(weighing 0)",
+            "(weighed0)",
+            "(unweigh 0)",
+            "(unweigh ())",
+            "(unweigh unweigh)",
+            "(unweigh (unweigh))",
+            "(unweighed)",
+            "(un weigh)",
+            "((unweigh))",
+            "((weighed 0))",
+            "(clear (unweigh))",
+            "(clear unweigh)",
+        ] {
+            assert_eq!(read(line.as_bytes()).and_then(request), Err(Code::NoSuchShape), "{line:?}");
+        }
+        for line in ["(weight 007 1)", "(weight 1 00)", "(weighed 01)", "(weighed 1000000000)", "(unweigh 0a)"] {
+            assert_eq!(read(line.as_bytes()).and_then(request), Err(Code::NotANumber), "{line:?}");
         }
     }
 

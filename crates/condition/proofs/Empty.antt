@@ -16,4 +16,6 @@ starts-empty =
       columns = refl;
       holds = λ n p q. ap (λ (h : Hold). h .head .count) (getD-replicate 16 (n - 1) noHold noHold (omega arith));
       total = refl;
+      tonnes = refl;
+      products = refl;
     }

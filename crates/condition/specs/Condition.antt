@@ -6,7 +6,7 @@ use Rattle.record.specs.declared.Rule.the-variants.{New}
 use Rattle.record.specs.declared.Ship.{Ship}
 use Rattle.record.specs.declared.Load.{Load}
 use Rattle.record.specs.declared.Hold.{Hold}
-use Rattle.record.specs.Filler.{noColumns, noHold}
+use Rattle.record.specs.Filler.{noColumns, noHold, noSums}
 use Rattle.condition.specs.declared.Condition.{Condition}
 
 abbrev pub noShip : Ship
@@ -26,6 +26,7 @@ empty =
       columns = noColumns;
       holds = replicate 16 noHold;
       total = 0;
+      sums = noSums;
     }
 
 -- whether a place holds a hold

@@ -11,19 +11,22 @@ use lib.Dec.{eqb}
 use borrow.Author.Tests.{eqb-true, not-true, lt-ltb, le-ltb}
 use Rattle.whole.specs.Lists.{all, isOneOf}
 use Rattle.whole.proofs.Lists.{clash, and-true}
+use Rattle.record.specs.declared.Weighing.the-variants.{Weight, Weighed, Unweigh}
 use Rattle.line_codes.specs.declared.Reading.{Reading}
 use Rattle.line_codes.specs.declared.Reading.the-variants.{Sound, TooLong, BadByte, NotOneForm, BadNumber}
 use Rattle.text.specs.Token.{tokens}
 use Rattle.line_codes.specs.Line.{readingOf, readingCode}
 use Rattle.line_codes.proofs.Codes.{line-code}
 use Rattle.forms.specs.declared.Kind.{Kind}
-use Rattle.forms.specs.declared.Kind.the-variants.{ShipLine, ColumnLine, LoadLine, HoldLine, DropLine, JudgeLine, ClearLine, ShowLine, TotalLine, NoShape}
+use Rattle.forms.specs.declared.Kind.the-variants.{ShipLine, ColumnLine, LoadLine, HoldLine, DropLine, JudgeLine, ClearLine, ShowLine, TotalLine, WeighingLine, NoShape}
 use Rattle.condition.specs.declared.Condition.{Condition}
 use Rattle.judging.specs.declared.Judged.{Judged}
 use Rattle.judging.specs.declared.Judged.the-variants.{Refused, Given}
 use Rattle.judging.specs.Judge.{judgedOf, judgedCode}
 use Rattle.judging.proofs.Codes.{sound-codes}
-use Rattle.operations.proofs.Codes.{ship-codes, load-codes, column-codes, hold-codes, drop-codes}
+use Rattle.operations.proofs.Codes.{ship-codes, load-codes, column-codes, hold-codes, drop-codes, weight-codes, weighed-codes}
+use Rattle.operations.specs.Operations.{Change}
+use Rattle.operations.proofs.Effects.{unweigh-taken}
 use Rattle.panel.specs.Step.{Outcome, verdictGiven, stepOf}
 use Rattle.panel.proofs.Codes.{codesOf, requestCodes, right-by, request-code}
 use Rattle.demands.specs.Codes.{request, Asks, EveryLine, ByOperation}
@@ -49,6 +52,9 @@ only JudgeLine = (λ e. cc, λ e. cc)
 only ClearLine = (λ e. cc, λ e. cc)
 only ShowLine = (λ e. cc, λ e. cc)
 only TotalLine = (λ e. cc, λ e. cc)
+only (WeighingLine (Weight i)) = (λ e. cc, λ e. cc)
+only (WeighingLine (Weighed fs)) = (λ e. cc, λ e. cc)
+only (WeighingLine Unweigh) = (λ e. cc, λ e. cc)
 only NoShape = (λ e. cc, λ e. cc)
 
 -- no request has a code that is given before it is looked at
@@ -173,6 +179,9 @@ module _ (c : Condition) (line : List ℕ) (lent : ℕ) where
         sixteen = (sixteen, λ (a, h). show-short a h);
         show = show-taken;
         total = λ a. code-of c line lent TotalLine a;
+        weight = λ i a. rw (code-of c line lent (WeighingLine (Weight i)) a) (weight-codes c i);
+        weighed = λ fs a. rw (code-of c line lent (WeighingLine (Weighed fs)) a) (weighed-codes c fs);
+        unweigh = λ a. code-of c line lent (WeighingLine Unweigh) a ∙ ap (λ (t : Change). t .code) (unweigh-taken c);
       }
 
 pub codes-by-operation : CodesByOperation

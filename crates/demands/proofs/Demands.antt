@@ -2,6 +2,7 @@
 use Rattle.line_codes.proofs.Decimals.{number-is}
 use Rattle.reply.proofs.Shown.{at-front}
 use Rattle.condition.proofs.Empty.{starts-empty}
+use Rattle.weights.proofs.Items.{sums-of-items}
 use Rattle.sending.proofs.Sending.{records-can-be-sent}
 use Rattle.stability.proofs.Covers.{every-angle}
 use Rattle.demands.specs.Demands.{Demands}
@@ -14,7 +15,8 @@ use Rattle.demands.proofs.Demand2.{weight-is-total}
 use Rattle.demands.proofs.Demand3.{verdicts-hold}
 use Rattle.demands.proofs.Reached.{steps-stay-within, reached-are-within, ranges-are-within}
 use Rattle.demands.proofs.Total.{stored-is-the-sum, total-stands-alone, total-with-items, totals-are-shown, stored-is-shown, sent-weigh-the-same}
-use Rattle.demands.proofs.Runs.{first-run, second-run, deck-run, show-run, total-run}
+use Rattle.demands.proofs.Items.{sums-are-of-the-items, items-can-be-taken, weighed-makes-the-load, weighed-is-within, weighing-stands-alone, weighing-with-other}
+use Rattle.demands.proofs.Runs.{first-run, second-run, deck-run, show-run, total-run, weighing-run}
 
 pub demands : Demands
 demands =
@@ -42,6 +44,14 @@ demands =
       storedIsShown = stored-is-shown;
       totalRun = total-run;
       sentWeighTheSame = sent-weigh-the-same;
+      sumsAreOfTheItems = sums-are-of-the-items;
+      itemsCanBeTaken = items-can-be-taken;
+      weighedMakesTheLoad = weighed-makes-the-load;
+      weighedIsWithin = weighed-is-within;
+      sumsOfItems = sums-of-items;
+      weighingStandsAlone = weighing-stands-alone;
+      weighingWithOther = weighing-with-other;
+      weighingRun = weighing-run;
       spacesAreFree = spaces-are-free;
       numbersAreRead = number-is;
       weightIsTotal = weight-is-total;

@@ -12,4 +12,5 @@ pub mod Demand2
 pub mod Demand3
 pub mod Runs
 pub mod Total
+pub mod Items
 pub mod Demands

@@ -1,5 +1,5 @@
 -- Every condition that lines can reach is within its limits: it is so at the start, and a line that is taken puts in a record that passed
--- its tests, or takes one out, and keeps the figure true.
+-- its tests, or takes one out, keeps the figure true and the sums in their range.
 use mathlib.Core.Path.{_≡_, refl, sym, ap, _∙_}
 use mathlib.Core.Bool.{Bool, true, false}
 use mathlib.Core.List.{List, [], _∷_}
@@ -8,17 +8,23 @@ use native.Mathlib.Omega.{arith}
 use lib.Dec.{eqb}
 use lib.ListN.{length, getD, take, set, length-take, length-set, getD-replicate}
 use lib.Seq.{getD-set-same, getD-set-other, getD-take, take-suc, take-length, length-take-le}
-use borrow.Author.Tests.{eqb-true, eqb-false, ltb-true}
+use borrow.Author.Tests.{eqb-true, eqb-false, ltb-true, leb-true}
 use Rattle.whole.specs.Lists.{sumOf}
 use Rattle.whole.proofs.Lists.{getD-any}
 use Rattle.record.specs.declared.Column.{Column}
 use Rattle.record.specs.declared.Columns.{Columns}
 use Rattle.record.specs.declared.Part.{Part}
 use Rattle.record.specs.declared.Hold.{Hold}
+use Rattle.record.specs.declared.ItemSums.{ItemSums}
+use Rattle.record.specs.declared.Weighing.{Weighing}
+use Rattle.record.specs.declared.Weighing.the-variants.{Weight, Weighed, Unweigh}
 use Rattle.columns.specs.declared.Added.the-variants.{Taken}
-use Rattle.record.specs.Filler.{noColumn, noPart, noHold}
+use Rattle.record.specs.Filler.{noColumn, noPart, noHold, noSums}
 use Rattle.limits.specs.Ranges.{ColumnRange}
-use Rattle.limits.proofs.Ranges.{ship-range, load-range, column-range, hold-range, place-range}
+use Rattle.limits.proofs.Ranges.{ship-range, load-range, column-range, hold-range, place-range, item-range, rise-range}
+use Rattle.weights.specs.Weights.{withItem, weighedLoad}
+use Rattle.weights.specs.Items.{SumsRange}
+use Rattle.weights.proofs.Items.{sums-of-items, more-range, weighed-is-a-load}
 use Rattle.columns.proofs.Adding.{above-is, answer-above}
 use Rattle.grain.specs.Sum.{holdMoment, weightMoment, totalWeight}
 use Rattle.grain.proofs.Weights.{nothing-weighs}
@@ -28,7 +34,7 @@ use Rattle.record.specs.Held.{held}
 use Rattle.columns.specs.Columns.{isAbove, columnAnswer, withColumn}
 use Rattle.text.specs.Token.{Token, tokens}
 use Rattle.forms.specs.declared.Kind.{Kind}
-use Rattle.forms.specs.declared.Kind.the-variants.{ShipLine, ColumnLine, LoadLine, HoldLine, DropLine, JudgeLine, ClearLine, ShowLine, TotalLine, NoShape}
+use Rattle.forms.specs.declared.Kind.the-variants.{ShipLine, ColumnLine, LoadLine, HoldLine, DropLine, JudgeLine, ClearLine, ShowLine, TotalLine, WeighingLine, NoShape}
 use Rattle.request.proofs.Lengths.{hold-places, cell-places, column-values}
 use Rattle.condition.specs.declared.Condition.{Condition}
 use Rattle.condition.specs.Condition.{empty, isHeld}
@@ -37,14 +43,15 @@ use Rattle.total.proofs.Sound.{PlaceSound}
 use Rattle.total.proofs.Figure.{exchange-true}
 use Rattle.judging.specs.Judge.{judgedOf}
 use Rattle.judging.specs.Complete.{Places}
-use Rattle.storing.specs.Storing.{withHold}
+use Rattle.storing.specs.Storing.{withHold, withSums}
+use Rattle.operations.specs.Operations.{weighingOperation}
 use Rattle.panel.specs.Step.{outcomeBy, stepOf, Sent, conditionAfter}
 use Rattle.sending.specs.Within.{Within, ColumnsTaken}
 use Rattle.demands.specs.Codes.{request}
 use Rattle.demands.specs.Demands.{StepsStayWithin, ReachedAreWithin, RangesAreWithin}
 use Rattle.storing.proofs.Taking.{place-within}
 use Rattle.demands.proofs.Asked.{taken-as}
-use Rattle.operations.proofs.Effects.{HoldPassed, ship-passed, ship-taken, load-passed, load-taken, column-passed, column-taken, hold-passed, hold-taken, drop-passed, drop-taken}
+use Rattle.operations.proofs.Effects.{HoldPassed, ship-passed, ship-taken, load-passed, load-taken, column-passed, column-taken, hold-passed, hold-taken, drop-passed, drop-taken, weight-passed, weight-taken, weighed-passed, weighed-taken, unweigh-taken}
 use Rattle.storing.proofs.Columns.{Fitting, fitting-more, held-more, below-twenty}
 use Rattle.panel.proofs.Effects.{judge-same}
 use Rattle.demands.proofs.Within.{hold-sound}
@@ -76,6 +83,7 @@ record Good (c : Condition) : Type 0 where
   columns : GoodColumns (c .columns)
   holds : GoodHolds (c .holds)
   total : c .total ≡ weight c
+  sums : SumsRange (c .sums)
 
 good-within : (c : Condition) → Good c → Within c
 good-within c g =
@@ -93,6 +101,7 @@ good-within c g =
       columns = g .columns .taken;
       holds = λ n h e. ap (λ ch. ch .code) (hold-taken empty (n + 1) (getD (c .holds) n noHold) (g .holds .each n h .passed e));
       total = g .total;
+      sums = sums-of-items (c .sums) .1 (g .sums);
     }
 
 -- ---- nothing held
@@ -115,6 +124,7 @@ good-empty =
       columns = record { fitting = record { places = refl; count = omega arith }; ten = λ i h k. absurd (omega arith); taken = tt };
       holds = record { long = refl; each = λ n h. rw (getD-replicate 16 n noHold noHold h) (no-hold n) };
       total = sym no-weight;
+      sums = (omega arith, omega arith);
     }
 
 -- ---- one entry replaced: what it and each other one has
@@ -154,17 +164,31 @@ put-column cs k g ten e =
 
 -- ---- each line that is taken
 module _ (c : Condition) (g : Good c) where
+  with-sums : (s : ItemSums) → SumsRange s → Good (withSums c s)
+  with-sums s range = record { ship = g .ship; load = g .load; columns = g .columns; holds = g .holds; total = g .total; sums = range }
+
+  weighing-good : (w : Weighing) → weighingOperation c w .code ≡ 0 → Good (weighingOperation c w .after)
+  weighing-good (Weight i) e =
+      let p = weight-passed c i e in
+      rw (weight-taken c i (p .0) (p .1)) (with-sums (withItem (c .sums) i) (more-range (c .sums) i (g .sums) (item-range i .0 (p .0)) (p .1)))
+  weighing-good (Weighed fs) e =
+      let p = weighed-passed c fs e in
+      let l = weighedLoad (c .sums) fs in
+      let good = load-range l .1 (weighed-is-a-load (c .sums) fs .1 (g .sums, leb-true 100 (c .sums .tonnes) (p .1), rise-range fs .0 (p .0))) in
+      rw (weighed-taken c fs (p .0) (p .1)) (record { ship = g .ship; load = λ t. good; columns = g .columns; holds = g .holds; total = g .total; sums = g .sums })
+  weighing-good Unweigh e = rw (unweigh-taken c) (with-sums noSums (omega arith, omega arith))
+
   good-by : (ts : List Token) (lent : ℕ) (k : Kind) (h : Hold) (col : Column) → SizedHold h → length (col .kn) ≡ 10 → outcomeBy c ts lent k h col .code ≡ 0 → Good (outcomeBy c ts lent k h col .after)
   good-by ts lent (ShipLine s) h col sh sc e =
       let p = ship-passed c s e in
-      rw (ship-taken c s p) (record { ship = λ t. p; load = g .load; columns = g .columns; holds = g .holds; total = g .total })
+      rw (ship-taken c s p) (record { ship = λ t. p; load = g .load; columns = g .columns; holds = g .holds; total = g .total; sums = g .sums })
   good-by ts lent ColumnLine h col sh sc e =
       let p = column-passed c col e in
       rw (column-taken c col p)
-      (record { ship = g .ship; load = g .load; columns = put-column (c .columns) col (g .columns) sc p; holds = g .holds; total = g .total })
+      (record { ship = g .ship; load = g .load; columns = put-column (c .columns) col (g .columns) sc p; holds = g .holds; total = g .total; sums = g .sums })
   good-by ts lent (LoadLine l) h col sh sc e =
       let p = load-passed c l e in
-      rw (load-taken c l p) (record { ship = g .ship; load = λ t. p; columns = g .columns; holds = g .holds; total = g .total })
+      rw (load-taken c l p) (record { ship = g .ship; load = λ t. p; columns = g .columns; holds = g .holds; total = g .total; sums = g .sums })
   good-by ts lent (HoldLine n) h col sh sc e =
       let p = hold-passed c n h e in
       let same : n - 1 + 1 ≡ n = omega (arith, place-within n (p .place) .0) in
@@ -176,6 +200,7 @@ module _ (c : Condition) (g : Good c) where
         columns = g .columns;
         holds = put-hold (c .holds) n h (g .holds) (p .place) new;
         total = put-figure c n h g (p .place) (λ t. record { limits = p .limits; fits = p .fits });
+        sums = g .sums;
       })
   good-by ts lent (DropLine n) h col sh sc e =
       let p = drop-passed c n e in
@@ -187,11 +212,13 @@ module _ (c : Condition) (g : Good c) where
         columns = g .columns;
         holds = put-hold (c .holds) n noHold (g .holds) (p .0) (no-hold (n - 1));
         total = rw (nothing-weighs noHold refl) at figure;
+        sums = g .sums;
       })
   good-by ts lent JudgeLine h col sh sc e = rw (judge-same c (judgedOf c)) g
   good-by ts lent ClearLine h col sh sc e = good-empty
   good-by ts lent ShowLine h col sh sc e = g
   good-by ts lent TotalLine h col sh sc e = g
+  good-by ts lent (WeighingLine w) h col sh sc e = weighing-good w e
   good-by ts lent NoShape h col sh sc e = absurd (omega arith)
 
   -- any line
@@ -221,8 +248,8 @@ reached-are-within ls = good-within (conditionAfter empty ls) (good-after empty 
 places-good :
     (c : Condition) → Places c → (c .shipped ≡ true → shipLimits (c .ship) ≡ true) → (c .loaded ≡ true → loadLimits (c .load) ≡ true) →
     ColumnsTaken empty (held (c .columns)) → ((n : ℕ) → n < 16 → isHeld (getD (c .holds) n noHold) ≡ true → HoldPassed (n + 1) (getD (c .holds) n noHold)) →
-    c .total ≡ weight c → Good c
-places-good c p ship load columns passed total =
+    c .total ≡ weight c → SumsRange (c .sums) → Good c
+places-good c p ship load columns passed total sums =
     record {
       ship = ship;
       load = load;
@@ -245,12 +272,13 @@ places-good c p ship load columns passed total =
             };
       };
       total = total;
+      sums = sums;
     }
 
 -- one within its limits
 pub steps-stay-within : StepsStayWithin
 steps-stay-within c line lent w =
-    let g = places-good c (w .places) (λ e. ship-passed empty (c .ship) (w .ship e)) (λ e. load-passed empty (c .load) (w .load e)) (w .columns) (hold-sound c w) (w .total) in
+    let g = places-good c (w .places) (λ e. ship-passed empty (c .ship) (w .ship e)) (λ e. load-passed empty (c .load) (w .load e)) (w .columns) (hold-sound c w) (w .total) (sums-of-items (c .sums) .0 (w .sums)) in
     good-within (stepOf c line lent .after) (good-step c g line lent)
 
 -- one whose records are in the paper's ranges
@@ -283,4 +311,4 @@ ranges-are-within c p r =
     let x = getD (c .holds) m noHold in
     let t = r .holds m h (ltb-true 0 (x .head .count) e) in
     record { place = place-range (m + 1) .1 (omega arith, omega arith); limits = hold-range x .1 (t .0); fits = hold-fits x .1 (t .1) })
-    (r .total))
+    (r .total) (r .sums))

@@ -16,7 +16,7 @@ use Rattle.spelling.proofs.Own.{own-spelling}
 use Rattle.spelling.proofs.Spelled.{spelled-so, spell-allowed}
 use Rattle.forms.specs.declared.Kind.the-variants.{ShowLine}
 use Rattle.showing.specs.Laws.{OfDocument01, ShowOf}
-use Rattle.showing.proofs.Forms.{asked-form, show-found, show-taken}
+use Rattle.showing.proofs.Forms.{form-line, asked-form, show-found, show-taken}
 use Rattle.showing.proofs.Laws.{inside-is-the-form, show-is-short, shape-deep, line-sound, form-proper, form-kept, form-numbers}
 use Rattle.condition.specs.declared.Condition.{Condition}
 use Rattle.panel.specs.Step.{Outcome, stepOf}
@@ -46,7 +46,7 @@ module _ (line : List ℕ) (lent : ℕ) (a : Asks line lent ShowLine) where
   inner-sound : readingOf (there .inner) ≡ Sound
   inner-sound =
       let f = asked-form form (found .1 .1) in
-      line-sound (there .inner) form (f .0) (there .kept) (f .1) inner-line (form-numbers line form (found .1) read)
+      line-sound (there .inner) form (f .0) (there .kept) (form-line form (f .0) [] (f .1)) inner-line (form-numbers line form (found .1) read)
 
   inner-asks : OfDocument01 (request (there .inner) .kind)
   inner-asks = rw (there .kept) (found .1 .1)

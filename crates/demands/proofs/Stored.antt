@@ -8,6 +8,7 @@ use native.Mathlib.Nat.{lt-of-not-le}
 use native.Mathlib.Decide.{decLe}
 use borrow.Author.Tests.{lt-ltb}
 use Rattle.whole.specs.Lists.{isOneOf}
+use Rattle.record.specs.declared.Weighing.the-variants.{Weight, Weighed, Unweigh}
 use Rattle.stability.specs.declared.Judgement.{Judgement}
 use Rattle.stability.specs.declared.Judgement.the-variants.{Passed, ShortOfGm, ShortAtHeel, ShortBeyond, ShortOfArea}
 use Rattle.stability.specs.Verdict.{judgementCode, verdictOf}
@@ -16,7 +17,7 @@ use Rattle.line_codes.specs.declared.Reading.the-variants.{Sound, TooLong, BadB
 use Rattle.text.specs.Token.{tokens}
 use Rattle.line_codes.specs.Line.{readingOf}
 use Rattle.forms.specs.declared.Kind.{Kind}
-use Rattle.forms.specs.declared.Kind.the-variants.{ShipLine, ColumnLine, LoadLine, HoldLine, DropLine, JudgeLine, ClearLine, ShowLine, TotalLine, NoShape}
+use Rattle.forms.specs.declared.Kind.the-variants.{ShipLine, ColumnLine, LoadLine, HoldLine, DropLine, JudgeLine, ClearLine, ShowLine, TotalLine, WeighingLine, NoShape}
 use Rattle.reply.specs.Replies.{answerReply}
 use Rattle.reply.specs.Shown.{RefusalShown}
 use Rattle.reply.proofs.Shown.{answer-shown, refusal-shown}
@@ -25,7 +26,7 @@ use Rattle.condition.proofs.Empty.{starts-empty}
 use Rattle.judging.specs.declared.Judged.{Judged}
 use Rattle.judging.specs.Judge.{basisAt, judgedOf}
 use Rattle.judging.proofs.Shown.{refusals, judged-by}
-use Rattle.operations.proofs.Stores.{ship-stored, load-stored, column-stored, hold-stored, hold-dropped}
+use Rattle.operations.proofs.Stores.{ship-stored, load-stored, column-stored, hold-stored, hold-dropped, item-stored, weighed-stored, items-removed}
 use Rattle.panel.specs.Step.{Outcome, verdictGiven, formShown, stepOf}
 use Rattle.panel.proofs.Effects.{judge-same}
 use Rattle.demands.specs.Codes.{request, Asks}
@@ -57,6 +58,9 @@ module _ (c : Condition) (line : List ℕ) (lent : ℕ) where
           clear = λ e. rw (after ClearLine e) starts-empty;
           show = λ e. after ShowLine e;
           total = λ e. after TotalLine e;
+          weight = λ i e. rw (after (WeighingLine (Weight i)) e) (item-stored c i (own (WeighingLine (Weight i)) e));
+          weighed = λ fs e. rw (after (WeighingLine (Weighed fs)) e) (weighed-stored c fs (own (WeighingLine (Weighed fs)) e));
+          unweigh = λ e. rw (after (WeighingLine Unweigh) e) (items-removed c);
         }
 
   -- ---- the reply of every line but judge, a show with room for its reply, and total
@@ -78,6 +82,7 @@ module _ (c : Condition) (line : List ℕ) (lent : ℕ) where
         by (yes h) = absurd (unshown (record { room = room; sound = none-applies line s; asked = e }) h)
         by (no h) = rw (lt-ltb lent 2100 (lt-of-not-le h))
     answered-kind s TotalLine e = absurd (uncounted (record { room = room; sound = none-applies line s; asked = e }))
+    answered-kind s (WeighingLine w) e = refl
     answered-kind s NoShape e = refl
 
     answered-by : (r : Reading) → readingOf line ≡ r → Answered (stepOf c line lent)

@@ -21,7 +21,7 @@ use Rattle.condition.specs.declared.Condition.{Condition}
 use Rattle.condition.specs.Condition.{empty, isHeld}
 use Rattle.total.specs.Total.{weight}
 use Rattle.total.proofs.Figure.{total-le}
-use Rattle.showing.proofs.Forms.{taken-as-total, total-only}
+use Rattle.showing.proofs.Own.{taken-as-total, total-only}
 use Rattle.panel.specs.Step.{Outcome, stepOf, conditionAfter}
 use Rattle.sending.specs.Within.{Within}
 use Rattle.sending.specs.Sending.{SameRecords, recordForms, asLines}

@@ -7,17 +7,19 @@ use Prim.Native.Nat.{ℕ, _≤_, _<_}
 use lib.ListN.{length}
 use Rattle.record.specs.declared.Ship.{Ship}
 use Rattle.record.specs.declared.Load.{Load}
+use Rattle.record.specs.declared.WeightItem.{WeightItem}
+use Rattle.record.specs.declared.Weighing.the-variants.{Weight, Weighed, Unweigh}
 use Rattle.record.specs.Held.{held}
 use Rattle.limits.specs.Ranges.{ShipRange, LoadRange}
 use Rattle.text.specs.Token.{tokens}
 use Rattle.line_codes.specs.Codes.{OtherByte, AllAllowed, Nested, NoNumber}
 use Rattle.forms.specs.declared.Kind.{Kind}
-use Rattle.forms.specs.declared.Kind.the-variants.{ShipLine, ColumnLine, LoadLine, HoldLine, DropLine, JudgeLine, ClearLine, ShowLine, TotalLine, NoShape}
+use Rattle.forms.specs.declared.Kind.the-variants.{ShipLine, ColumnLine, LoadLine, HoldLine, DropLine, JudgeLine, ClearLine, ShowLine, TotalLine, WeighingLine, NoShape}
 use Rattle.forms.specs.declared.Request.{Request}
 use Rattle.request.specs.Shape.{requestOf}
 use Rattle.condition.specs.declared.Condition.{Condition}
 use Rattle.judging.specs.Codes.{JudgeCodes}
-use Rattle.operations.specs.Codes.{LimitCodes, ColumnCodes, HoldCodes, DropCodes}
+use Rattle.operations.specs.Codes.{LimitCodes, ColumnCodes, HoldCodes, DropCodes, WeightCodes, WeighedCodes}
 use Rattle.sending.specs.Within.{Within}
 
 -- ---- what a line asks for
@@ -60,3 +62,7 @@ pub record ByOperation (c : Condition) (line : List ℕ) (lent code : ℕ) : Typ
   pub show : Asks line lent ShowLine → 2100 ≤ lent → code ≡ 0
   -- document 02, P4
   pub total : Asks line lent TotalLine → code ≡ 0
+  -- document 02, P5
+  pub weight : (i : WeightItem) → Asks line lent (WeighingLine (Weight i)) → WeightCodes c i code
+  pub weighed : (fs : ℕ) → Asks line lent (WeighingLine (Weighed fs)) → WeighedCodes c fs code
+  pub unweigh : Asks line lent (WeighingLine Unweigh) → code ≡ 0

@@ -1,8 +1,8 @@
--- The three demands (document 00), and show and total (document 02, P2 and P4), of the step of one line and of its repetition over any list of lines. Proved in
+-- The three demands (document 00), and show, total and the weight items (document 02, P2, P4 and P5), of the step of one line and of its repetition over any list of lines. Proved in
 -- proofs/Demands.antt. What each layer says by itself stands there: line_codes/specs/Codes.antt, limits/specs/Ranges.antt,
 -- cells/specs/Figures.antt, slack/specs/Exact.antt, grain/specs/Figures.antt, stability/specs/Demand.antt, reply/specs/Shown.antt,
--- judging/specs/Codes.antt, operations/specs/Codes.antt, storing/specs/Stores.antt, spelling/specs/SoSpelled.antt, sending/specs/Laws.antt;
--- the codes of a line in Codes.antt, show in Show.antt, total in Total.antt, the worked runs in Runs.antt.
+-- judging/specs/Codes.antt, operations/specs/Codes.antt, storing/specs/Stores.antt, spelling/specs/SoSpelled.antt, weights/specs/Items.antt, sending/specs/Laws.antt;
+-- the codes of a line in Codes.antt, show in Show.antt, total in Total.antt, weight items in Items.antt, the worked runs in Runs.antt.
 use mathlib.Core.Path.{_≡_}
 use mathlib.Core.Bool.{true}
 use mathlib.Core.List.{List, [], _∷_, _++_}
@@ -12,6 +12,8 @@ use lib.ListN.{length, getD}
 use Rattle.whole.specs.Lists.{isOneOf}
 use Rattle.record.specs.declared.Ship.{Ship}
 use Rattle.record.specs.declared.Load.{Load}
+use Rattle.record.specs.declared.WeightItem.{WeightItem}
+use Rattle.record.specs.declared.Weighing.the-variants.{Weight, Weighed, Unweigh}
 use Rattle.record.specs.Held.{held}
 use Rattle.record.specs.Filler.{noColumn, noHold}
 use Rattle.grain.specs.Figures.{total, WeightMoment}
@@ -23,7 +25,7 @@ use Rattle.stability.specs.Margins.{Margins}
 use Rattle.text.specs.declared.Number.the-variants.{Is}
 use Rattle.text.specs.Token.{numberOf}
 use Rattle.line_codes.specs.Codes.{LetterOrDigit, NumberIs}
-use Rattle.forms.specs.declared.Kind.the-variants.{ShipLine, ColumnLine, LoadLine, HoldLine, DropLine, JudgeLine, ClearLine, ShowLine, TotalLine}
+use Rattle.forms.specs.declared.Kind.the-variants.{ShipLine, ColumnLine, LoadLine, HoldLine, DropLine, JudgeLine, ClearLine, ShowLine, TotalLine, WeighingLine}
 use Rattle.reply.specs.Written.{over}
 use Rattle.reply.specs.Shown.{AtFront, AnswerShown, RefusalShown, VerdictShown}
 use Rattle.condition.specs.declared.Condition.{Condition}
@@ -31,21 +33,23 @@ use Rattle.condition.specs.Condition.{empty}
 use Rattle.condition.specs.Empty.{Nothing}
 use Rattle.total.specs.Total.{weight}
 use Rattle.panel.specs.Step.{Outcome, stepOf, Sent, conditionAfter, outcomes}
+use Rattle.weights.specs.Items.{SumsOfItems}
 use Rattle.judging.specs.Complete.{Places, InRanges, Complete}
-use Rattle.storing.specs.Stores.{ShipStored, LoadStored, ColumnStored, HoldStored, HoldDropped}
+use Rattle.storing.specs.Stores.{ShipStored, LoadStored, ColumnStored, HoldStored, HoldDropped, ItemStored, WeighedStored, ItemsRemoved}
 use Rattle.sending.specs.Within.{Within}
 use Rattle.sending.specs.Laws.{RecordsCanBeSent}
 use Rattle.demands.specs.Codes.{request, Asks, ByOperation}
 use Rattle.demands.specs.Show.{ShowsAForm, ShowsTheForm, ShapesAreFourDeep}
 use Rattle.demands.specs.Total.{StoredIsTheSum, TotalStandsAlone, TotalWithItems, TotalsAreShown, StoredIsShown, SentWeighTheSame}
-use Rattle.demands.specs.Runs.{FirstRun, SecondRun, DeckRun, ShowRun, TotalRun}
+use Rattle.demands.specs.Items.{SumsAreOfTheItems, ItemsCanBeTaken, WeighedMakesTheLoad, WeighedIsWithin, WeighingStandsAlone, WeighingWithOther}
+use Rattle.demands.specs.Runs.{FirstRun, SecondRun, DeckRun, ShowRun, TotalRun, WeighingRun}
 
 -- ---- Demand 1
 
 -- the printed list of codes
 abbrev pub printed : List ℕ
 printed =
-    0 ∷ 10 ∷ 11 ∷ 12 ∷ 13 ∷ 14 ∷ 15 ∷ 16 ∷ 20 ∷ 21 ∷ 22 ∷ 23 ∷ 24 ∷ 30 ∷ 31 ∷ 32 ∷ 33 ∷ 34 ∷ 40 ∷ 41 ∷ 42 ∷ 43 ∷ []
+    0 ∷ 10 ∷ 11 ∷ 12 ∷ 13 ∷ 14 ∷ 15 ∷ 16 ∷ 20 ∷ 21 ∷ 22 ∷ 23 ∷ 24 ∷ 26 ∷ 27 ∷ 30 ∷ 31 ∷ 32 ∷ 33 ∷ 34 ∷ 40 ∷ 41 ∷ 42 ∷ 43 ∷ []
 
 -- every line is answered with one code of the printed list
 abbrev pub CodesArePrinted : Type 0
@@ -71,6 +75,9 @@ pub record Stores (c : Condition) (line : List ℕ) (after : Condition) : Type 0
   pub clear : request line .kind ≡ ClearLine → Nothing after
   pub show : request line .kind ≡ ShowLine → after ≡ c
   pub total : request line .kind ≡ TotalLine → after ≡ c
+  pub weight : (i : WeightItem) → request line .kind ≡ WeighingLine (Weight i) → ItemStored c i after
+  pub weighed : (fs : ℕ) → request line .kind ≡ WeighingLine (Weighed fs) → WeighedStored c fs after
+  pub unweigh : request line .kind ≡ WeighingLine Unweigh → ItemsRemoved c after
 
 abbrev pub RecordsAreStored : Type 0
 RecordsAreStored =
@@ -167,7 +174,7 @@ StepsStayWithin = (c : Condition) (line : List ℕ) (lent : ℕ) → Within c �
 abbrev pub ReachedAreWithin : Type 0
 ReachedAreWithin = (ls : List Sent) → Within (conditionAfter empty ls)
 
--- and so is every one whose records are in the paper's ranges and whose figure is true: "within its limits" leaves none of them out
+-- and so is every one whose records and sums are in the paper's ranges and whose figure is true: "within its limits" leaves none of them out
 abbrev pub RangesAreWithin : Type 0
 RangesAreWithin = (c : Condition) → Places c → InRanges c → Within c
 
@@ -197,6 +204,15 @@ pub record Demands : Type 0 where
   pub storedIsShown : StoredIsShown
   pub totalRun : TotalRun
   pub sentWeighTheSame : SentWeighTheSame
+  pub sumsAreOfTheItems : SumsAreOfTheItems
+  pub itemsCanBeTaken : ItemsCanBeTaken
+  pub weighedMakesTheLoad : WeighedMakesTheLoad
+  pub weighedIsWithin : WeighedIsWithin
+  -- which sums items give: by the two figures (weights/specs/Items.antt)
+  pub sumsOfItems : SumsOfItems
+  pub weighingStandsAlone : WeighingStandsAlone
+  pub weighingWithOther : WeighingWithOther
+  pub weighingRun : WeighingRun
   pub spacesAreFree : SpacesAreFree
   pub numbersAreRead : NumbersAreRead
   pub weightIsTotal : WeightIsTotal

@@ -5,7 +5,8 @@
 -- wings, hatches and void cells; a wing whose depth lies between two tenths and its area between two whole mm², 946.12 and 6,983,902.2;
 -- one whose two terms have hundredths, 447.34 + 189.75, so that each rounded by itself gives another tenth; one at the least depth; an
 -- excess that moves past a cell with room, a void that does not fit; FLOOD inside a step; each of 40 to 43 once, and a DIFF below zero
--- beyond UPPER with 00. The third is of partly filled parts of each shape, the fourth of show lines, the fifth of totals.
+-- beyond UPPER with 00. The third is of partly filled parts of each shape, the fourth of show lines, the fifth of totals,
+-- the sixth of weight items.
 use mathlib.Core.Path.{_≡_}
 use mathlib.Core.List.{List, [], _∷_, map}
 use Prim.Native.String.{String}
@@ -267,4 +268,115 @@ TotalRun =
     ∷ "(answer 14)\n"
     ∷ "(answer 00)\n"
     ∷ "(answer 00 0)\n"
+    ∷ [])
+
+-- weight items: a load of none; of two, and of three that make D and KG of document 01's load; above 400,000 tonnes, outside the limits, in a show, with a number
+-- too few or too many; an unweigh and a clear that are turned down; KG rounded up; a load line between, after which the items make the same load again; none
+-- left, and the load stays; 99 tonnes, 100, and 400,000; KG 1 for 0; after a clear
+abbrev pub weighings : List String
+weighings =
+    "(ship new 1430 3500)"
+    ∷ "(column 20000 9000 (0 870 1740 2080 2600 3450 4300 5100 5850 6500))"
+    ∷ "(column 30000 9000 (0 870 1740 2080 2600 3450 4300 5100 5850 6500))"
+    ∷ "(hold 1 trimmed 12500 (part 10000 (void 10000 500 5000)))"
+    ∷ "(hold 2 partial 12500 (part 10000 12000 3000 6000))"
+    ∷ "(weighed 10001)"
+    ∷ "(weighed 100)"
+    ∷ "(weight 20000 7000)"
+    ∷ "(weight 4999 12000)"
+    ∷ "(weighed 100)"
+    ∷ "(judge)"
+    ∷ "(weight 1 12000)"
+    ∷ "(weighed 99)"
+    ∷ "(judge)"
+    ∷ "(weight 375001 0)"
+    ∷ "(weight 400001 0)"
+    ∷ "(weight 0 5)"
+    ∷ "(weight 1 50001)"
+    ∷ "(weighed 10001)"
+    ∷ "(show (weighed 100))"
+    ∷ "(weight 1)"
+    ∷ "(weighed)"
+    ∷ "(unweigh 1)"
+    ∷ "(clear 1)"
+    ∷ "(weight 1 8001)"
+    ∷ "(weighed 100)"
+    ∷ "(judge)"
+    ∷ "(load 25000 8601 100)"
+    ∷ "(judge)"
+    ∷ "(weighed 100)"
+    ∷ "(judge)"
+    ∷ "(unweigh)"
+    ∷ "(unweigh)"
+    ∷ "(weighed 100)"
+    ∷ "(judge)"
+    ∷ "(weight 99 50000)"
+    ∷ "(weighed 0)"
+    ∷ "(weight 1 50000)"
+    ∷ "(weighed 0)"
+    ∷ "(weight 399900 50000)"
+    ∷ "(weighed 0)"
+    ∷ "(judge)"
+    ∷ "(unweigh)"
+    ∷ "(weight 25000 0)"
+    ∷ "(weighed 0)"
+    ∷ "(judge)"
+    ∷ "(clear)"
+    ∷ "(weighed 0)"
+    ∷ "(unweigh)"
+    ∷ []
+
+abbrev pub WeighingRun : Type 0
+WeighingRun =
+    replies 2100 weighings
+    ≡ map bytes
+    ("(answer 00)\n"
+    ∷ "(answer 00)\n"
+    ∷ "(answer 00)\n"
+    ∷ "(answer 00)\n"
+    ∷ "(answer 00)\n"
+    ∷ "(answer 20)\n"
+    ∷ "(answer 27)\n"
+    ∷ "(answer 00)\n"
+    ∷ "(answer 00)\n"
+    ∷ "(answer 00)\n"
+    ∷ "(verdict 00 900000 368831 3500 2012603204)\n"
+    ∷ "(answer 00)\n"
+    ∷ "(answer 00)\n"
+    ∷ "(verdict 00 901000 369040 3500 2013640452)\n"
+    ∷ "(answer 26)\n"
+    ∷ "(answer 20)\n"
+    ∷ "(answer 20)\n"
+    ∷ "(answer 20)\n"
+    ∷ "(answer 20)\n"
+    ∷ "(answer 14)\n"
+    ∷ "(answer 14)\n"
+    ∷ "(answer 14)\n"
+    ∷ "(answer 14)\n"
+    ∷ "(answer 14)\n"
+    ∷ "(answer 00)\n"
+    ∷ "(answer 00)\n"
+    ∷ "(verdict 00 899000 368625 3500 2011574365)\n"
+    ∷ "(answer 00)\n"
+    ∷ "(verdict 40 299000 243877 3500 1390812687)\n"
+    ∷ "(answer 00)\n"
+    ∷ "(verdict 00 899000 368625 3500 2011574365)\n"
+    ∷ "(answer 00)\n"
+    ∷ "(answer 00)\n"
+    ∷ "(answer 27)\n"
+    ∷ "(verdict 00 899000 368625 3500 2011574365)\n"
+    ∷ "(answer 00)\n"
+    ∷ "(answer 27)\n"
+    ∷ "(answer 00)\n"
+    ∷ "(answer 00)\n"
+    ∷ "(answer 00)\n"
+    ∷ "(answer 00)\n"
+    ∷ "(verdict 33)\n"
+    ∷ "(answer 00)\n"
+    ∷ "(answer 00)\n"
+    ∷ "(answer 00)\n"
+    ∷ "(verdict 00 8999000 2052712 3500 10398693820)\n"
+    ∷ "(answer 00)\n"
+    ∷ "(answer 27)\n"
+    ∷ "(answer 00)\n"
     ∷ [])

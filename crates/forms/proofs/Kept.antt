@@ -1,4 +1,4 @@
--- What a field carries serves the limits: no test sees the difference, and a ship, load or column within its limits is carried as it is. For a
+-- What a field carries serves the limits: no test sees the difference, and a ship, load, column or weight item within its limits is carried as it is. For a
 -- hold see request/proofs/Tidy.antt.
 use mathlib.Core.Path.{_≡_, refl, sym, _∙_}
 use mathlib.Core.Bool.{true}
@@ -15,13 +15,14 @@ use Rattle.record.specs.declared.Ship.{Ship}
 use Rattle.record.specs.declared.Load.{Load}
 use Rattle.record.specs.declared.Column.{Column}
 use Rattle.record.specs.declared.Hold.{Hold}
+use Rattle.record.specs.declared.WeightItem.{WeightItem}
 use Rattle.record.specs.Held.{partsOf}
-use Rattle.limits.specs.Limits.{edge, displacement, shipLimits, loadLimits, columnLimits, partLimits, holdLimits}
+use Rattle.limits.specs.Limits.{edge, displacement, shipLimits, loadLimits, columnLimits, partLimits, holdLimits, itemLimits}
 use Rattle.items.specs.Carried.{carried}
 use Rattle.items.proofs.Kept.{kept-within, same-test, kept-last, same-all, kept-all}
 use Rattle.parts.specs.Carried.{carriedPart}
 use Rattle.parts.proofs.Kept.{take-map, same-part}
-use Rattle.forms.specs.Carried.{carriedRule, carriedShip, carriedLoad, carriedColumn, carriedHold}
+use Rattle.forms.specs.Carried.{carriedRule, carriedShip, carriedLoad, carriedColumn, carriedHold, carriedItem}
 
 -- ---- a ship
 same-edge : (r : Rule) → edge (carriedRule r) ≡ carried (edge r)
@@ -54,6 +55,15 @@ kept-load l e =
     let fs = kept-last _ _ _ _ refl e in
     let kg = kept-last (displacement (l .d)) _ _ _ refl (fs .0) in
     rw (kg .1, fs .1)
+
+-- ---- a weight item
+pub same-item : (i : WeightItem) → itemLimits (carriedItem i) ≡ itemLimits i
+unfolding itemLimits
+same-item i = simp same-test
+
+pub kept-item : (i : WeightItem) → itemLimits i ≡ true → carriedItem i ≡ i
+unfolding itemLimits
+kept-item i e = rw (kept-last (within 1 400000 (i .tonnes)) _ _ _ refl e .1)
 
 -- ---- a column: its first number is 0 as it is carried exactly where it is 0
 same-zero : (v : ℕ) → eqb (carried v) 0 ≡ eqb v 0

@@ -1,4 +1,4 @@
--- Requests as they are carried (items/specs/Carried.antt). Any ship, load or column within its limits is carried as it is (proofs/Kept.antt); a hold
+-- Requests as they are carried (items/specs/Carried.antt). Any ship, load, column or weight item within its limits is carried as it is (proofs/Kept.antt); a hold
 -- within its limits only where it was read, since its limits do not test what the grammar leaves unused (request/proofs/Tidy.antt, kept-hold).
 use mathlib.Core.List.{map}
 use Rattle.record.specs.declared.Rule.{Rule}
@@ -7,10 +7,13 @@ use Rattle.record.specs.declared.Ship.{Ship}
 use Rattle.record.specs.declared.Load.{Load}
 use Rattle.record.specs.declared.Column.{Column}
 use Rattle.record.specs.declared.Hold.{Hold}
+use Rattle.record.specs.declared.WeightItem.{WeightItem}
+use Rattle.record.specs.declared.Weighing.{Weighing}
+use Rattle.record.specs.declared.Weighing.the-variants.{Weight, Weighed, Unweigh}
 use Rattle.items.specs.Carried.{carried}
 use Rattle.parts.specs.Carried.{carriedPart}
 use Rattle.forms.specs.declared.Kind.{Kind}
-use Rattle.forms.specs.declared.Kind.the-variants.{ShipLine, ColumnLine, LoadLine, HoldLine, DropLine, JudgeLine, ClearLine, ShowLine, TotalLine, NoShape}
+use Rattle.forms.specs.declared.Kind.the-variants.{ShipLine, ColumnLine, LoadLine, HoldLine, DropLine, JudgeLine, ClearLine, ShowLine, TotalLine, WeighingLine, NoShape}
 use Rattle.forms.specs.declared.Request.{Request}
 
 abbrev pub carriedRule : Rule → Rule
@@ -33,6 +36,14 @@ carriedHold h =
       parts = map carriedPart (h .parts);
     }
 
+abbrev pub carriedItem : WeightItem → WeightItem
+carriedItem i = record { tonnes = i .tonnes; height = carried (i .height) }
+
+abbrev pub carriedWeighing : Weighing → Weighing
+carriedWeighing (Weight i) = Weight (carriedItem i)
+carriedWeighing (Weighed fs) = Weighed (carried fs)
+carriedWeighing Unweigh = Unweigh
+
 abbrev pub carriedKind : Kind → Kind
 carriedKind (ShipLine s) = ShipLine (carriedShip s)
 carriedKind ColumnLine = ColumnLine
@@ -43,6 +54,7 @@ carriedKind JudgeLine = JudgeLine
 carriedKind ClearLine = ClearLine
 carriedKind ShowLine = ShowLine
 carriedKind TotalLine = TotalLine
+carriedKind (WeighingLine w) = WeighingLine (carriedWeighing w)
 carriedKind NoShape = NoShape
 
 -- a request as it is carried

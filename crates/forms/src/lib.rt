@@ -10,6 +10,7 @@ use record::Load;
 use record::Mode;
 use record::Rule;
 use record::Ship;
+use record::Weighing;
 ghost use mathlib.Core.Path.{_≡_};
 ghost use Prim.Native.Nat.{_≤_};
 ghost use lib.ListN.{length, drop};
@@ -32,6 +33,7 @@ pub enum Kind {
     ClearLine,
     ShowLine,
     TotalLine,
+    WeighingLine(Weighing),
     NoShape,
 }
 
@@ -90,7 +92,7 @@ pub fn plain(kind: Kind) -> Request
 }
 
 // Where no form was read.
-fn no_form() -> Form
+pub fn no_form() -> Form
     ensures { λ r. ⌜ r .request ≡ Shape·plain Kind.NoShape ⌝ }
     ensures { λ r. ⌜ r .end ≡ Place.Nowhere ⌝ }
 {

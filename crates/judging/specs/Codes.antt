@@ -22,6 +22,6 @@ pub record JudgeCodes (c : Condition) (code : ℕ) : Type 0 where
       × ((c .load .d < getD (held (c .columns)) 0 noColumn .d) ⊎ (lastD (held (c .columns)) < c .load .d)))
   pub thirtyFour : (code ≡ 34) ↔ (Ready c × (1000000000 < weight c))
 
--- on every condition whose records are in their ranges, and whose figure is true
+-- on every condition whose records and sums are in their ranges, and whose figure is true
 abbrev pub CodesOfJudge : Type 0
 CodesOfJudge = (c : Condition) → InRanges c → JudgeCodes c (judgedCode (judgedOf c))

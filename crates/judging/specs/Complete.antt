@@ -1,4 +1,4 @@
--- Document 01, in its numbers: a condition whose records are in their ranges and whose figure is true, one that judge is ready for, and one that is complete.
+-- Documents 01 and 02, in their numbers: a condition whose records and sums are in their ranges and whose figure is true, one that judge is ready for, and one that is complete.
 use mathlib.Core.Path.{_≡_}
 use mathlib.Core.Bool.{true}
 use Prim.Native.Nat.{ℕ, _+_, _≤_, _<_}
@@ -7,6 +7,7 @@ use Rattle.record.specs.Held.{held, lastD}
 use Rattle.record.specs.Filler.{noColumn, noPart, noHold}
 use Rattle.limits.specs.Ranges.{ShipRange, LoadRange, ColumnRange, HoldRange}
 use Rattle.grain.specs.Figures.{HoldFits}
+use Rattle.weights.specs.Items.{SumsRange}
 use Rattle.condition.specs.declared.Condition.{Condition}
 use Rattle.total.specs.Total.{weight}
 
@@ -19,7 +20,8 @@ pub record Places (c : Condition) : Type 0 where
   pub partPlaces : (n : ℕ) → n < 16 → length (getD (c .holds) n noHold .parts) ≡ 6
   pub cellPlaces : (n : ℕ) → n < 16 → (i : ℕ) → i < 6 → length (getD (getD (c .holds) n noHold .parts) i noPart .cells) ≡ 8
 
--- each record in its ranges, each D above the one before, every void fits, and the stored figure is the sum over the holds
+-- each record in its ranges, each D above the one before, every void fits, the stored figure is the sum over the holds, and the sums of the
+-- weight items are in their range
 pub record InRanges (c : Condition) : Type 0 where
   pub ship : c .shipped ≡ true → ShipRange (c .ship)
   pub load : c .loaded ≡ true → LoadRange (c .load)
@@ -31,6 +33,7 @@ pub record InRanges (c : Condition) : Type 0 where
       (n : ℕ) → n < 16 → 0 < getD (c .holds) n noHold .head .count →
       HoldRange (getD (c .holds) n noHold) × HoldFits (getD (c .holds) n noHold)
   pub total : c .total ≡ weight c
+  pub sums : SumsRange (c .sums)
 
 -- none of 30 to 33 applies, each said by its own words: a ship; two columns; a load; D neither below the first nor above the last
 -- column

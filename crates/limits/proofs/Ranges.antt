@@ -20,10 +20,11 @@ use Rattle.record.specs.declared.Cell.{Cell}
 use Rattle.record.specs.declared.Cell.the-variants.{Wing, Hatch, Void}
 use Rattle.record.specs.declared.Part.{Part}
 use Rattle.record.specs.declared.Hold.{Hold}
+use Rattle.record.specs.declared.WeightItem.{WeightItem}
 use Rattle.record.specs.Filler.{noPart}
 use Rattle.record.specs.Held.{cellWidth, cellsOf, partsOf}
-use Rattle.limits.specs.Limits.{edge, shipLimits, displacement, loadLimits, columnLimits, cellLimits, sectionLimits, slackLimits, partLimits, holdLimits, placeLimits}
-use Rattle.limits.specs.Ranges.{EdgeRange, ShipRange, LoadRange, ColumnRange, CellRange, SectionRange, SlackRange, PartRange, HoldRange, PlaceRange}
+use Rattle.limits.specs.Limits.{edge, shipLimits, displacement, rise, loadLimits, columnLimits, cellLimits, sectionLimits, slackLimits, partLimits, holdLimits, placeLimits, itemLimits}
+use Rattle.limits.specs.Ranges.{EdgeRange, ShipRange, LoadRange, ColumnRange, CellRange, SectionRange, SlackRange, PartRange, HoldRange, PlaceRange, ItemRange, RiseRange}
 
 -- ---- ship
 edge-range : (r : Rule) → (within 1 9000 (edge r) ≡ true) ↔ EdgeRange r
@@ -154,3 +155,16 @@ hold-range h = (
 
 pub place-range : (n : ℕ) → (placeLimits n ≡ true) ↔ PlaceRange n
 place-range n = (λ e. let t = within-true 1 16 n e in (t .low, t .high), λ (a, b). within-by 1 16 n a b)
+
+-- ---- weight items, and the rise of a load that they make
+pub item-range : (i : WeightItem) → (itemLimits i ≡ true) ↔ ItemRange i
+unfolding itemLimits
+item-range i = (
+  λ e. let t = and-true (within 1 400000 (i .tonnes)) (within 0 50000 (i .height)) e in
+      let u = within-true 1 400000 (i .tonnes) (t .0) in
+      (u .low, u .high, within-true 0 50000 (i .height) (t .1) .high),
+  λ (a, b, c). rw (within-by 1 400000 (i .tonnes) a b, within-by 0 50000 (i .height) (omega arith) c),
+)
+
+pub rise-range : (fs : ℕ) → (rise fs ≡ true) ↔ RiseRange fs
+rise-range fs = (λ e. within-true 0 10000 fs e .high, λ h. within-by 0 10000 fs (omega arith) h)

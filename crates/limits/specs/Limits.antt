@@ -1,4 +1,4 @@
--- Document 01, Lines of the panel: the limits of each record's numbers. A number outside them is code 20.
+-- Document 01, Lines of the panel, and document 02, P5: the limits of each record's numbers. A number outside them is code 20.
 use mathlib.Core.Bool.{Bool, _&&_}
 use Prim.Native.Nat.{ℕ}
 use lib.Dec.{leb, eqb}
@@ -15,6 +15,7 @@ use Rattle.record.specs.declared.Cell.{Cell}
 use Rattle.record.specs.declared.Cell.the-variants.{Wing, Hatch, Void}
 use Rattle.record.specs.declared.Part.{Part}
 use Rattle.record.specs.declared.Hold.{Hold}
+use Rattle.record.specs.declared.WeightItem.{WeightItem}
 use Rattle.record.specs.Held.{cellWidth, cellsOf, partsOf}
 
 -- EDGE, the angle of deck-edge immersion: stored under either rule
@@ -30,9 +31,13 @@ shipLimits s = within 1 9000 (edge (s .rule)) && within 1 9000 (s .flood)
 abbrev pub displacement : ℕ → Bool
 displacement d = within 100 400000 d
 
--- D; KG 1 to 50,000; FS 0 to 10,000
+-- FS, the free-surface rise: 0 to 10,000
+abbrev pub rise : ℕ → Bool
+rise fs = within 0 10000 fs
+
+-- D; KG 1 to 50,000; FS
 unfoldable pub loadLimits : Load → Bool
-loadLimits l = displacement (l .d) && within 1 50000 (l .kg) && within 0 10000 (l .fs)
+loadLimits l = displacement (l .d) && within 1 50000 (l .kg) && rise (l .fs)
 
 -- D; KM 1 to 50,000; ten KN 0 to 50,000, the first 0
 unfoldable pub columnLimits : Column → Bool
@@ -70,3 +75,7 @@ holdLimits h =
 -- N, the number of a hold: 1 to 16
 abbrev pub placeLimits : ℕ → Bool
 placeLimits n = within 1 16 n
+
+-- a weight item: T 1 to 400,000 tonnes; H 0 to 50,000
+unfoldable pub itemLimits : WeightItem → Bool
+itemLimits i = within 1 400000 (i .tonnes) && within 0 50000 (i .height)

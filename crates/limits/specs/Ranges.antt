@@ -1,4 +1,4 @@
--- Document 01, Lines of the panel, in its own numbers and of the records' fields: when a record is within its limits. Nothing here rests
+-- Document 01, Lines of the panel, and document 02, P5, in their own numbers and of the records' fields: when a record is within its limits. Nothing here rests
 -- on the tests by which the program is proved; proofs/Ranges.antt shows that those pass exactly there.
 use mathlib.Core.Path.{_≡_}
 use Prim.Native.Nat.{ℕ, _≤_, _<_}
@@ -15,6 +15,7 @@ use Rattle.record.specs.declared.Cell.{Cell}
 use Rattle.record.specs.declared.Cell.the-variants.{Wing, Hatch, Void}
 use Rattle.record.specs.declared.Part.{Part}
 use Rattle.record.specs.declared.Hold.{Hold}
+use Rattle.record.specs.declared.WeightItem.{WeightItem}
 use Rattle.record.specs.Filler.{noPart}
 use Rattle.record.specs.Held.{cellWidth, cellsOf, partsOf}
 
@@ -68,3 +69,11 @@ HoldRange h =
 -- N 1 to 16
 abbrev pub PlaceRange : ℕ → Type 0
 PlaceRange n = (1 ≤ n) × (n ≤ 16)
+
+-- `(weight T H)`: T 1 to 400,000 tonnes; H 0 to 50,000
+abbrev pub ItemRange : WeightItem → Type 0
+ItemRange i = (1 ≤ i .tonnes) × (i .tonnes ≤ 400000) × (i .height ≤ 50000)
+
+-- `(weighed FS)`: FS 0 to 10,000
+abbrev pub RiseRange : ℕ → Type 0
+RiseRange fs = fs ≤ 10000

@@ -3,10 +3,11 @@ use record::Column;
 use record::Load;
 use record::Rule;
 use record::Ship;
+use record::WeightItem;
 ghost use mathlib.Core.Path.{_≡_};
 ghost use Prim.Native.Nat.{_<_};
 ghost use Rattle.whole.specs.Lists.{within, all};
-ghost use Rattle.limits.specs.Limits.{edge, displacement, shipLimits, loadLimits, columnLimits, placeLimits};
+ghost use Rattle.limits.specs.Limits.{edge, displacement, rise, shipLimits, loadLimits, columnLimits, placeLimits, itemLimits};
 
 // Whether lo <= v <= hi.
 pub fn is_within(lo: u16, hi: u16, v: u16) -> bool
@@ -20,6 +21,13 @@ fn is_displacement(d: u32) -> bool
     ensures { λ r. ⌜ r ≡ displacement d ⌝ }
 {
     choice::both(100 <= d, d <= 400000)
+}
+
+// Whether fs is a free-surface rise.
+pub fn is_rise(fs: u16) -> bool
+    ensures { λ r. ⌜ r ≡ rise fs ⌝ }
+{
+    is_within(0, 10000, fs)
 }
 
 fn edge_of(rule: Rule) -> u16
@@ -46,7 +54,7 @@ pub fn load_limits(l: Load) -> bool
 {
     choice::both(
         choice::both(is_displacement(l.d), is_within(1, 50000, l.kg)),
-        is_within(0, 10000, l.fs),
+        is_rise(l.fs),
     )
 }
 
@@ -77,4 +85,11 @@ pub fn place_limits(n: u32) -> bool
     ensures { λ r. ⌜ r ≡ placeLimits n ⌝ }
 {
     choice::both(1 <= n, n <= 16)
+}
+
+pub fn item_limits(i: WeightItem) -> bool
+    ensures { λ r. ⌜ r ≡ itemLimits i ⌝ }
+{
+    let tonnes = choice::both(1 <= i.tonnes, i.tonnes <= 400000);
+    choice::both(tonnes, is_within(0, 50000, i.height))
 }

@@ -3,35 +3,38 @@ use mathlib.Core.Path.{_≡_, refl}
 use mathlib.Core.Bool.{Bool, true, false, cond, not, _&&_}
 use mathlib.Core.List.{List}
 use mathlib.Core.Logic.{_↔_}
-use Prim.Native.Nat.{ℕ, _-_, _≤_, _<_}
+use Prim.Native.Nat.{ℕ, _+_, _-_, _≤_, _<_}
 use native.Mathlib.Omega.{arith}
 use native.Mathlib.Nat.{lt-of-not-le}
 use native.Mathlib.Decide.{decLe}
 use lib.Dec.{leb}
 use lib.ListN.{length, getD}
-use borrow.Author.Tests.{leb-true, leb-false, ltb-true, lt-ltb}
+use borrow.Author.Tests.{leb-true, leb-false, le-leb, ltb-true, lt-ltb}
 use Rattle.whole.proofs.Lists.{clash, and-true}
 use Rattle.record.specs.declared.Ship.{Ship}
 use Rattle.record.specs.declared.Load.{Load}
 use Rattle.record.specs.declared.Column.{Column}
 use Rattle.record.specs.declared.Hold.{Hold}
+use Rattle.record.specs.declared.WeightItem.{WeightItem}
+use Rattle.record.specs.declared.Weighing.the-variants.{Weight, Weighed}
 use Rattle.record.specs.Held.{held, lastD}
 use Rattle.record.specs.Filler.{noColumn, noHold}
-use Rattle.limits.specs.Limits.{shipLimits, loadLimits, columnLimits, holdLimits, placeLimits}
+use Rattle.limits.specs.Limits.{rise, shipLimits, loadLimits, columnLimits, holdLimits, placeLimits, itemLimits}
 use Rattle.limits.specs.Ranges.{ShipRange, LoadRange, ColumnRange}
-use Rattle.limits.proofs.Ranges.{ship-range, load-range, column-range, hold-range, place-range}
+use Rattle.limits.proofs.Ranges.{ship-range, load-range, column-range, hold-range, place-range, item-range, rise-range}
 use Rattle.columns.specs.declared.Added.the-variants.{Taken, Limits, Full, NotAbove}
 use Rattle.columns.specs.Columns.{isAbove, columnAnswer, addedCode}
 use Rattle.columns.proofs.Adding.{above-is}
-use Rattle.grain.specs.Sum.{holdFits, weightMoment}
+use Rattle.grain.specs.Sum.{holdFits}
 use Rattle.grain.proofs.Figures.{hold-fits}
+use Rattle.weights.specs.Weights.{hasRoom, makesLoad}
 use Rattle.condition.specs.declared.Condition.{Condition}
 use Rattle.condition.specs.Condition.{isHeld}
-use Rattle.storing.specs.Storing.{withShip, withLoad, withHold, holdAt}
+use Rattle.storing.specs.Storing.{withShip, withLoad, holdAt}
 use Rattle.operations.specs.Operations.{taken, refusedWith}
-use Rattle.operations.specs.Operations.{shipOperation, loadOperation, columnOperation, holdOperation, dropOperation}
-use Rattle.operations.specs.Codes.{LimitCodes, ColumnCodes, HoldCodes, DropCodes}
-use Rattle.operations.proofs.Effects.{by-cond, change-code}
+use Rattle.operations.specs.Operations.{shipOperation, loadOperation, columnOperation, holdOperation, dropOperation, weighingOperation}
+use Rattle.operations.specs.Codes.{LimitCodes, ColumnCodes, HoldCodes, DropCodes, WeightCodes, WeighedCodes}
+use Rattle.operations.proofs.Effects.{by-cond, change-code, two-coded}
 
 -- ---- tests one after the other, and the codes that they give
 limit-codes : {P : Type 0} (x : Bool) → (x ≡ true) ↔ P → LimitCodes P (cond x 0 20)
@@ -131,17 +134,35 @@ module _ (c : Condition) where
   -- two tests, one after the other
   two-codes : {P Q : Type 0} (x y : Bool) (after : Condition) (b : ℕ) → 20 < b → (x ≡ true) ↔ P → (y ≡ true) ↔ Q → TwoTests P Q b (cond x (cond y (taken after) (refusedWith b c)) (refusedWith 20 c) .code)
   two-codes x y after b h p q =
-      rw (by-cond x (cond y (taken after) (refusedWith b c)) (refusedWith 20 c), by-cond y (taken after) (refusedWith b c)) (two-tests x y b h p q)
+      rw (two-coded c x y after b) (two-tests x y b h p q)
 
   pub hold-codes : (n : ℕ) (h : Hold) → HoldCodes n h (holdOperation c n h .code)
   unfolding holdOperation
   hold-codes n h =
-      let t = two-codes (placeLimits n && holdLimits h) (holdFits h) (withHold c n h (weightMoment h)) 21 (omega arith) (both (placeLimits n) (holdLimits h) (place-range n) (hold-range h)) (hold-fits h) in
+      let t = two-codes (placeLimits n && holdLimits h) (holdFits h) _ 21 (omega arith) (both (placeLimits n) (holdLimits h) (place-range n) (hold-range h)) (hold-fits h) in
       record { twenty = t .twenty; twentyOne = t .second; taken = t .taken }
 
   pub drop-codes : (n : ℕ) → DropCodes c n (dropOperation c n .code)
   unfolding dropOperation
   drop-codes n =
       let held = getD (c .holds) (n - 1) noHold .head .count in
-      let t = two-codes (placeLimits n) (isHeld (holdAt c n)) (withHold c n noHold 0) 24 (omega arith) (place-range n) (ltb-true 0 held, lt-ltb 0 held) in
+      let t = two-codes (placeLimits n) (isHeld (holdAt c n)) _ 24 (omega arith) (place-range n) (ltb-true 0 held, lt-ltb 0 held) in
       record { twenty = t .twenty; twentyFour = t .second; taken = t .taken }
+
+  -- what is not at most another number is above it
+  above : {P : Type 0} {code n : ℕ} (a b : ℕ) → (code ≡ n) ↔ (P × (a ≤ b → ⊥)) → (code ≡ n) ↔ (P × (b < a))
+  above a b t = (λ e. let u = t .0 e in (u .0, lt-of-not-le (u .1)), λ (p, h). t .1 (p, λ g. omega arith))
+
+  pub weight-codes : (i : WeightItem) → WeightCodes c i (weighingOperation c (Weight i) .code)
+  unfolding weighingOperation
+  weight-codes i =
+      let sum = c .sums .tonnes + i .tonnes in
+      let t = two-codes (itemLimits i) (hasRoom (c .sums) i) _ 26 (omega arith) (item-range i) (leb-true sum 400000, le-leb sum 400000) in
+      record { twenty = t .twenty; twentySix = above sum 400000 (t .second); taken = t .taken }
+
+  pub weighed-codes : (fs : ℕ) → WeighedCodes c fs (weighingOperation c (Weighed fs) .code)
+  unfolding weighingOperation
+  weighed-codes fs =
+      let sum = c .sums .tonnes in
+      let t = two-codes (rise fs) (makesLoad (c .sums)) _ 27 (omega arith) (rise-range fs) (leb-true 100 sum, le-leb 100 sum) in
+      record { twenty = t .twenty; twentySeven = above 100 sum (t .second); taken = t .taken }

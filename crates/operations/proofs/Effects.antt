@@ -8,18 +8,22 @@ use Rattle.record.specs.declared.Ship.{Ship}
 use Rattle.record.specs.declared.Load.{Load}
 use Rattle.record.specs.declared.Column.{Column}
 use Rattle.record.specs.declared.Hold.{Hold}
+use Rattle.record.specs.declared.WeightItem.{WeightItem}
+use Rattle.record.specs.declared.ItemSums.{ItemSums}
+use Rattle.record.specs.declared.Weighing.the-variants.{Weight, Weighed, Unweigh}
 use Rattle.record.specs.Held.{held}
-use Rattle.record.specs.Filler.{noHold}
-use Rattle.limits.specs.Limits.{shipLimits, loadLimits, holdLimits, placeLimits}
+use Rattle.record.specs.Filler.{noHold, noSums}
+use Rattle.limits.specs.Limits.{rise, shipLimits, loadLimits, holdLimits, placeLimits, itemLimits}
 use Rattle.columns.specs.declared.Added.{Added}
 use Rattle.columns.specs.declared.Added.the-variants.{Taken, Limits, Full, NotAbove}
 use Rattle.columns.specs.Columns.{columnAnswer, addedCode, withColumn}
 use Rattle.grain.specs.Sum.{holdFits, weightMoment}
+use Rattle.weights.specs.Weights.{hasRoom, withItem, makesLoad, weighedLoad}
 use Rattle.condition.specs.declared.Condition.{Condition}
 use Rattle.condition.specs.Condition.{isHeld}
-use Rattle.storing.specs.Storing.{withShip, withLoad, withColumns, withHold, holdAt}
+use Rattle.storing.specs.Storing.{withShip, withLoad, withColumns, withHold, holdAt, withSums}
 use Rattle.operations.specs.Operations.{Change, taken, refusedWith}
-use Rattle.operations.specs.Operations.{shipOperation, loadOperation, columnChange, columnOperation, holdOperation, dropOperation}
+use Rattle.operations.specs.Operations.{shipOperation, loadOperation, columnChange, columnOperation, holdOperation, dropOperation, weighingOperation}
 
 -- a test chooses between two changes as it does between their codes
 pub by-cond : (x : Bool) (a b : Change) → cond x a b .code ≡ cond x (a .code) (b .code)
@@ -30,6 +34,16 @@ by-cond false a b = refl
 passed : (x : Bool) (a b : Change) → 0 < b .code → cond x a b .code ≡ 0 → (x ≡ true) × (a .code ≡ 0)
 passed true a b h e = (refl, e)
 passed false a b h e = absurd (omega arith)
+
+-- two tests, one behind the other: their codes, and what 00 says of them
+module _ (c : Condition) (x y : Bool) (after : Condition) (b : ℕ) where
+  pub two-coded : cond x (cond y (taken after) (refusedWith b c)) (refusedWith 20 c) .code ≡ cond x (cond y 0 b) 20
+  two-coded = by-cond x (cond y (taken after) (refusedWith b c)) (refusedWith 20 c) ∙ ap (λ n. cond x n 20) (by-cond y (taken after) (refusedWith b c))
+
+  two-passed : 0 < b → cond x (cond y (taken after) (refusedWith b c)) (refusedWith 20 c) .code ≡ 0 → (x ≡ true) × (y ≡ true)
+  two-passed h e =
+      let t = passed x (cond y (taken after) (refusedWith b c)) (refusedWith 20 c) (omega arith) e in
+      (t .0, passed y (taken after) (refusedWith b c) h (t .1) .0)
 
 -- of the answers to a column one has the code 00
 taken-code : (a : Added) → addedCode a ≡ 0 → a ≡ Taken
@@ -80,13 +94,9 @@ module _ (c : Condition) where
     pub hold-passed : holdOperation c n h .code ≡ 0 → HoldPassed n h
     unfolding holdOperation
     hold-passed e =
-        let t = passed (placeLimits n && holdLimits h) (cond (holdFits h) (taken (withHold c n h (weightMoment h))) (refusedWith 21 c)) (refusedWith 20 c) (omega arith) e in
+        let t = two-passed c (placeLimits n && holdLimits h) (holdFits h) _ 21 (omega arith) e in
         let u = and-true (placeLimits n) (holdLimits h) (t .0) in
-        record {
-          place = u .0;
-          limits = u .1;
-          fits = passed (holdFits h) (taken (withHold c n h (weightMoment h))) (refusedWith 21 c) (omega arith) (t .1) .0;
-        }
+        record { place = u .0; limits = u .1; fits = t .1 }
 
     pub hold-taken : HoldPassed n h → holdOperation c n h ≡ taken (withHold c n h (weightMoment h))
     unfolding holdOperation
@@ -94,13 +104,43 @@ module _ (c : Condition) where
 
   pub drop-passed : (n : ℕ) → dropOperation c n .code ≡ 0 → (placeLimits n ≡ true) × (isHeld (holdAt c n) ≡ true)
   unfolding dropOperation
-  drop-passed n e =
-      let t = passed (placeLimits n) (cond (isHeld (holdAt c n)) (taken (withHold c n noHold 0)) (refusedWith 24 c)) (refusedWith 20 c) (omega arith) e in
-      (t .0, passed (isHeld (holdAt c n)) (taken (withHold c n noHold 0)) (refusedWith 24 c) (omega arith) (t .1) .0)
+  drop-passed n e = two-passed c (placeLimits n) (isHeld (holdAt c n)) _ 24 (omega arith) e
 
   pub drop-taken : (n : ℕ) → placeLimits n ≡ true → isHeld (holdAt c n) ≡ true → dropOperation c n ≡ taken (withHold c n noHold 0)
   unfolding dropOperation
   drop-taken n p h = rw (p, h)
+
+  module _ (i : WeightItem) where
+    pub weight-passed : weighingOperation c (Weight i) .code ≡ 0 → (itemLimits i ≡ true) × (hasRoom (c .sums) i ≡ true)
+    unfolding weighingOperation
+    weight-passed e = two-passed c (itemLimits i) (hasRoom (c .sums) i) _ 26 (omega arith) e
+
+    pub weight-taken : itemLimits i ≡ true → hasRoom (c .sums) i ≡ true → weighingOperation c (Weight i) ≡ taken (withSums c (withItem (c .sums) i))
+    unfolding weighingOperation
+    weight-taken p h = rw (p, h)
+
+  module _ (fs : ℕ) where
+    pub weighed-passed : weighingOperation c (Weighed fs) .code ≡ 0 → (rise fs ≡ true) × (makesLoad (c .sums) ≡ true)
+    unfolding weighingOperation
+    weighed-passed e = two-passed c (rise fs) (makesLoad (c .sums)) _ 27 (omega arith) e
+
+    pub weighed-taken : rise fs ≡ true → makesLoad (c .sums) ≡ true → weighingOperation c (Weighed fs) ≡ taken (withLoad c (weighedLoad (c .sums) fs))
+    unfolding weighingOperation
+    weighed-taken p h = rw (p, h)
+
+  -- the code, as the tests find it where the sums are these
+  module _ (s : ItemSums) (e : c .sums ≡ s) (x y : Bool) where
+    pub weight-coded : (i : WeightItem) → x ≡ itemLimits i → y ≡ hasRoom s i → cond x (cond y 0 26) 20 ≡ weighingOperation c (Weight i) .code
+    unfolding weighingOperation
+    weight-coded i p q = rw (p, q, ← e) (sym (two-coded c (itemLimits i) (hasRoom (c .sums) i) _ 26))
+
+    pub weighed-coded : (fs : ℕ) → x ≡ rise fs → y ≡ makesLoad s → cond x (cond y 0 27) 20 ≡ weighingOperation c (Weighed fs) .code
+    unfolding weighingOperation
+    weighed-coded fs p q = rw (p, q, ← e) (sym (two-coded c (rise fs) (makesLoad (c .sums)) _ 27))
+
+  pub unweigh-taken : weighingOperation c Unweigh ≡ taken (withSums c noSums)
+  unfolding weighingOperation
+  unweigh-taken = refl
 
   -- an operation that is answered with 00 has its effect
   after : {a b : Change} → a ≡ b → b .after ≡ a .after
@@ -120,3 +160,9 @@ module _ (c : Condition) where
 
   pub drop-effect : (n : ℕ) → dropOperation c n .code ≡ 0 → withHold c n noHold 0 ≡ dropOperation c n .after
   drop-effect n e = let t = drop-passed n e in after (drop-taken n (t .0) (t .1))
+
+  pub weight-effect : (i : WeightItem) → weighingOperation c (Weight i) .code ≡ 0 → withSums c (withItem (c .sums) i) ≡ weighingOperation c (Weight i) .after
+  weight-effect i e = let t = weight-passed i e in after (weight-taken i (t .0) (t .1))
+
+  pub weighed-effect : (fs : ℕ) → weighingOperation c (Weighed fs) .code ≡ 0 → withLoad c (weighedLoad (c .sums) fs) ≡ weighingOperation c (Weighed fs) .after
+  weighed-effect fs e = let t = weighed-passed fs e in after (weighed-taken fs (t .0) (t .1))

@@ -8,16 +8,19 @@ use Rattle.record.specs.declared.Ship.{Ship}
 use Rattle.record.specs.declared.Load.{Load}
 use Rattle.record.specs.declared.Column.{Column}
 use Rattle.record.specs.declared.Hold.{Hold}
+use Rattle.record.specs.declared.Weighing.{Weighing}
+use Rattle.record.specs.declared.Weighing.the-variants.{Weight, Weighed, Unweigh}
 use Rattle.record.specs.Held.{held}
-use Rattle.limits.specs.Limits.{shipLimits, loadLimits, holdLimits, placeLimits}
+use Rattle.limits.specs.Limits.{rise, shipLimits, loadLimits, holdLimits, placeLimits, itemLimits}
 use Rattle.columns.specs.declared.Added.{Added}
 use Rattle.columns.specs.declared.Added.the-variants.{Taken, Limits, Full, NotAbove}
 use Rattle.columns.specs.Columns.{columnAnswer}
 use Rattle.grain.specs.Sum.{holdFits}
+use Rattle.weights.specs.Weights.{hasRoom, makesLoad}
 use Rattle.condition.specs.declared.Condition.{Condition}
 use Rattle.condition.specs.Condition.{isHeld}
 use Rattle.storing.specs.Storing.{holdAt}
-use Rattle.operations.specs.Operations.{Change, taken, refusedWith, shipOperation, loadOperation, columnChange, columnOperation, holdOperation, dropOperation}
+use Rattle.operations.specs.Operations.{Change, taken, refusedWith, shipOperation, loadOperation, columnChange, columnOperation, holdOperation, dropOperation, weighingOperation}
 
 -- it has one of these codes, and unless that is 00 the condition is as it was
 pub record Right (codes : List ℕ) (c : Condition) (t : Change) : Type 0 where
@@ -41,6 +44,12 @@ module _ {codes : List ℕ} (c : Condition) where
 
   two-tests : (x y : Bool) (after : Condition) (n : ℕ) → isOneOf codes 0 ≡ true → isOneOf codes 20 ≡ true → isOneOf codes n ≡ true → Right codes c (cond x (cond y (taken after) (refusedWith n c)) (refusedWith 20 c))
   two-tests x y after n z e f = right-if (λ t. t) x (right-if (λ t. t) y (right-taken after z) (right-same n f)) (right-same 20 e)
+
+-- the codes of each line of weights
+abbrev pub weighingCodes : Weighing → List ℕ
+weighingCodes (Weight i) = 0 ∷ 20 ∷ 26 ∷ []
+weighingCodes (Weighed fs) = 0 ∷ 20 ∷ 27 ∷ []
+weighingCodes Unweigh = 0 ∷ []
 
 module _ (c : Condition) where
   pub ship-right : (s : Ship) → Right (0 ∷ 20 ∷ []) c (shipOperation c s)
@@ -69,3 +78,9 @@ module _ (c : Condition) where
   pub drop-right : (n : ℕ) → Right (0 ∷ 20 ∷ 24 ∷ []) c (dropOperation c n)
   unfolding isOneOf dropOperation
   drop-right n = two-tests c (placeLimits n) (isHeld (holdAt c n)) _ 24 refl refl refl
+
+  pub weighing-right : (w : Weighing) → Right (weighingCodes w) c (weighingOperation c w)
+  unfolding isOneOf weighingOperation
+  weighing-right (Weight i) = two-tests c (itemLimits i) (hasRoom (c .sums) i) _ 26 refl refl refl
+  weighing-right (Weighed fs) = two-tests c (rise fs) (makesLoad (c .sums)) _ 27 refl refl refl
+  weighing-right Unweigh = right-taken c _ refl

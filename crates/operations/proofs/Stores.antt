@@ -5,13 +5,15 @@ use Rattle.record.specs.declared.Ship.{Ship}
 use Rattle.record.specs.declared.Load.{Load}
 use Rattle.record.specs.declared.Column.{Column}
 use Rattle.record.specs.declared.Hold.{Hold}
+use Rattle.record.specs.declared.WeightItem.{WeightItem}
+use Rattle.record.specs.declared.Weighing.the-variants.{Weight, Weighed, Unweigh}
 use Rattle.grain.specs.Sum.{weightMoment}
 use Rattle.condition.specs.declared.Condition.{Condition}
-use Rattle.storing.specs.Stores.{ShipStored, LoadStored, ColumnStored, HoldStored, HoldDropped}
+use Rattle.storing.specs.Stores.{ShipStored, LoadStored, ColumnStored, HoldStored, HoldDropped, ItemStored, WeighedStored, ItemsRemoved}
 use Rattle.storing.proofs.Taking.{place-within}
-use Rattle.storing.proofs.Stores.{ship-put, load-put, column-put, hold-put, drop-put}
-use Rattle.operations.specs.Operations.{shipOperation, loadOperation, columnOperation, holdOperation, dropOperation}
-use Rattle.operations.proofs.Effects.{ship-effect, load-effect, column-passed, column-effect, hold-passed, hold-effect, drop-passed, drop-effect}
+use Rattle.storing.proofs.Stores.{ship-put, load-put, column-put, hold-put, drop-put, item-put, weighed-put, none-put}
+use Rattle.operations.specs.Operations.{shipOperation, loadOperation, columnOperation, holdOperation, dropOperation, weighingOperation}
+use Rattle.operations.proofs.Effects.{ship-effect, load-effect, column-passed, column-effect, hold-passed, hold-effect, drop-passed, drop-effect, weight-effect, weighed-effect, unweigh-taken}
 
 module _ (c : Condition) where
   pub ship-stored : (s : Ship) → shipOperation c s .code ≡ 0 → ShipStored c s (shipOperation c s .after)
@@ -28,3 +30,12 @@ module _ (c : Condition) where
 
   pub hold-dropped : (n : ℕ) → dropOperation c n .code ≡ 0 → HoldDropped c n (dropOperation c n .after)
   hold-dropped n e = rw (← drop-effect c n e) (drop-put c n (place-within n (drop-passed c n e .0)))
+
+  pub item-stored : (i : WeightItem) → weighingOperation c (Weight i) .code ≡ 0 → ItemStored c i (weighingOperation c (Weight i) .after)
+  item-stored i e = rw (← weight-effect c i e) (item-put c i)
+
+  pub weighed-stored : (fs : ℕ) → weighingOperation c (Weighed fs) .code ≡ 0 → WeighedStored c fs (weighingOperation c (Weighed fs) .after)
+  weighed-stored fs e = rw (← weighed-effect c fs e) (weighed-put c fs)
+
+  pub items-removed : ItemsRemoved c (weighingOperation c Unweigh .after)
+  items-removed = rw (unweigh-taken c) (none-put c)

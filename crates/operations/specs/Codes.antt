@@ -1,15 +1,16 @@
--- Document 01, Codes, by operation, in its own words and numbers and in the order printed: where each code of an operation but judge is
+-- Documents 01 and 02, Codes, by operation, in their own words and numbers and in the order printed: where each code of an operation but judge is
 -- given, both ways. A code stands where none printed before it in its operation applies.
 use mathlib.Core.Path.{_≡_}
 use mathlib.Core.List.{List}
 use mathlib.Core.Logic.{_↔_}
-use Prim.Native.Nat.{ℕ, _-_, _≤_, _<_}
+use Prim.Native.Nat.{ℕ, _+_, _-_, _≤_, _<_}
 use lib.ListN.{length, getD}
 use Rattle.record.specs.declared.Column.{Column}
 use Rattle.record.specs.declared.Hold.{Hold}
+use Rattle.record.specs.declared.WeightItem.{WeightItem}
 use Rattle.record.specs.Held.{lastD}
 use Rattle.record.specs.Filler.{noHold}
-use Rattle.limits.specs.Ranges.{ColumnRange, HoldRange, PlaceRange}
+use Rattle.limits.specs.Ranges.{ColumnRange, HoldRange, PlaceRange, ItemRange, RiseRange}
 use Rattle.grain.specs.Figures.{HoldFits}
 use Rattle.condition.specs.declared.Condition.{Condition}
 
@@ -36,3 +37,15 @@ pub record DropCodes (c : Condition) (n code : ℕ) : Type 0 where
   pub twenty : (code ≡ 20) ↔ (PlaceRange n → ⊥)
   pub twentyFour : (code ≡ 24) ↔ (PlaceRange n × (0 < getD (c .holds) (n - 1) noHold .head .count → ⊥))
   pub taken : (code ≡ 0) ↔ (PlaceRange n × (0 < getD (c .holds) (n - 1) noHold .head .count))
+
+-- ---- Weight: 20, 26, the sum would pass 400,000
+pub record WeightCodes (c : Condition) (i : WeightItem) (code : ℕ) : Type 0 where
+  pub twenty : (code ≡ 20) ↔ (ItemRange i → ⊥)
+  pub twentySix : (code ≡ 26) ↔ (ItemRange i × (400000 < c .sums .tonnes + i .tonnes))
+  pub taken : (code ≡ 0) ↔ (ItemRange i × (c .sums .tonnes + i .tonnes ≤ 400000))
+
+-- ---- Weighed: 20, 27, a sum under 100
+pub record WeighedCodes (c : Condition) (fs code : ℕ) : Type 0 where
+  pub twenty : (code ≡ 20) ↔ (RiseRange fs → ⊥)
+  pub twentySeven : (code ≡ 27) ↔ (RiseRange fs × (c .sums .tonnes < 100))
+  pub taken : (code ≡ 0) ↔ (RiseRange fs × (100 ≤ c .sums .tonnes))

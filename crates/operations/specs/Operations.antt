@@ -1,22 +1,25 @@
--- Document 01, Codes, by operation: the code and the condition after. Every code but 00 leaves the condition unchanged.
+-- Document 01, Codes, by operation, and document 02, P5: the code and the condition after. Every code but 00 leaves the condition unchanged.
 use mathlib.Core.Bool.{cond, _&&_}
 use Prim.Native.Nat.{ℕ}
 use Rattle.record.specs.declared.Ship.{Ship}
 use Rattle.record.specs.declared.Load.{Load}
 use Rattle.record.specs.declared.Column.{Column}
 use Rattle.record.specs.declared.Hold.{Hold}
+use Rattle.record.specs.declared.Weighing.{Weighing}
+use Rattle.record.specs.declared.Weighing.the-variants.{Weight, Weighed, Unweigh}
 use Rattle.record.specs.Held.{held}
-use Rattle.record.specs.Filler.{noHold}
-use Rattle.limits.specs.Limits.{shipLimits, loadLimits, holdLimits, placeLimits}
+use Rattle.record.specs.Filler.{noHold, noSums}
+use Rattle.limits.specs.Limits.{rise, shipLimits, loadLimits, holdLimits, placeLimits, itemLimits}
 use Rattle.columns.specs.declared.Added.{Added}
 use Rattle.columns.specs.declared.Added.the-variants.{Taken, Limits, Full, NotAbove}
 use Rattle.columns.specs.Columns.{columnAnswer, addedCode, withColumn}
-use Rattle.grain.specs.declared.Weighed.{Weighed}
+use Rattle.grain.specs.declared.Weighed.{Weighed as HoldWeighed}
 use Rattle.grain.specs.declared.Weighed.the-variants.{Limits as Outside}
 use Rattle.grain.specs.Sum.{holdFits, weightMoment, weighedOf}
+use Rattle.weights.specs.Weights.{hasRoom, withItem, makesLoad, weighedLoad}
 use Rattle.condition.specs.declared.Condition.{Condition}
 use Rattle.condition.specs.Condition.{isHeld}
-use Rattle.storing.specs.Storing.{withShip, withLoad, withColumns, withHold, holdAt}
+use Rattle.storing.specs.Storing.{withShip, withLoad, withColumns, withHold, holdAt, withSums}
 
 -- an operation's code, and the condition after it
 pub record Change : Type 0 where
@@ -54,10 +57,18 @@ holdOperation c n h =
 
 -- the same as the program finds it: the answer of the hold's weighing, whose code is this one and whose moment goes into the figure
 -- (proofs/Taking.antt, hold-answered)
-unfoldable pub holdAnswer : ℕ → Hold → Weighed
+unfoldable pub holdAnswer : ℕ → Hold → HoldWeighed
 holdAnswer n h = cond (placeLimits n) (weighedOf h) Outside
 
 -- Drop: 20, 24
 unfoldable pub dropOperation : Condition → ℕ → Change
 dropOperation c n =
     cond (placeLimits n) (cond (isHeld (holdAt c n)) (taken (withHold c n noHold 0)) (refusedWith 24 c)) (refusedWith 20 c)
+
+-- Weight: 20, 26; weighed: 20, 27; unweigh
+unfoldable pub weighingOperation : Condition → Weighing → Change
+weighingOperation c (Weight i) =
+    cond (itemLimits i) (cond (hasRoom (c .sums) i) (taken (withSums c (withItem (c .sums) i))) (refusedWith 26 c)) (refusedWith 20 c)
+weighingOperation c (Weighed fs) =
+    cond (rise fs) (cond (makesLoad (c .sums)) (taken (withLoad c (weighedLoad (c .sums) fs))) (refusedWith 27 c)) (refusedWith 20 c)
+weighingOperation c Unweigh = taken (withSums c noSums)

@@ -4,8 +4,10 @@ use condition::Condition;
 use grain::Weighed;
 use record::Column;
 use record::Hold;
+use record::ItemSums;
 use record::Load;
 use record::Ship;
+use record::Weighing;
 ghost use mathlib.Core.Path.{_≡_};
 ghost use mathlib.Core.Bool.{cond};
 ghost use Prim.Native.Nat.{_-_, _≤_};
@@ -14,7 +16,7 @@ ghost use Rattle.record.specs.Filler.{noHold};
 ghost use Rattle.columns.specs.Columns.{addedCode};
 ghost use Rattle.grain.specs.Sum.{weighedCode};
 ghost use Rattle.condition.specs.Condition.{isHeld};
-ghost use Rattle.operations.specs.Operations.{shipOperation, loadOperation, columnOperation, holdAnswer, dropOperation};
+ghost use Rattle.operations.specs.Operations.{shipOperation, loadOperation, columnOperation, holdAnswer, dropOperation, weighingOperation};
 
 // 00 within the limits, 20 outside them.
 fn limit_code(inside: bool) -> u8
@@ -61,7 +63,7 @@ pub fn column_code(c: Condition, k: Column) -> u8
 }
 
 // The paper's code for each answer of a hold.
-pub fn weighed_code(w: Weighed) -> u8
+pub fn hold_code(w: Weighed) -> u8
     ensures { λ r. ⌜ r ≡ weighedCode w ⌝ }
 {
     match w {
@@ -104,4 +106,28 @@ pub fn drop_code(c: Condition, n: u32) -> u8
         return 24;
     }
     0
+}
+
+// 00, or 20 outside the limits, or this code where the test behind them fails.
+fn tested_code(inside: bool, passed: bool, code: u8) -> u8
+    ensures { λ r. ⌜ r ≡ cond inside (cond passed 0 code) 20 ⌝ }
+{
+    if !inside {
+        return 20;
+    }
+    if !passed {
+        return code;
+    }
+    0
+}
+
+// The code of a line of weights where these sums are held: weight 00, or 20, 26; weighed 00, or 20, 27; unweigh 00.
+pub fn weighing_code(s: ItemSums, w: Weighing) -> u8
+    ensures { λ r. ⌜ ((c : Condition) → c .sums ≡ s → r ≡ weighingOperation c w .code) ⌝ }
+{
+    match w {
+        Weighing::Weight(i) => tested_code(limits::item_limits(i), weights::has_room(s, i), 26),
+        Weighing::Weighed(fs) => tested_code(limits::is_rise(fs), weights::makes_load(s), 27),
+        Weighing::Unweigh => 0,
+    }
 }

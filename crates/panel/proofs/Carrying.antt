@@ -3,23 +3,29 @@ use mathlib.Core.Path.{_≡_, refl, sym, _∙_, ap}
 use mathlib.Core.Bool.{Bool, true, false}
 use mathlib.Core.List.{List}
 use Prim.Native.Nat.{ℕ}
+use native.Mathlib.Omega.{arith}
 use Rattle.whole.proofs.Lists.{and-false}
 use Rattle.text.specs.Token.{Token}
 use Rattle.record.specs.declared.Ship.{Ship}
 use Rattle.record.specs.declared.Load.{Load}
 use Rattle.record.specs.declared.Column.{Column}
 use Rattle.record.specs.declared.Hold.{Hold}
-use Rattle.limits.specs.Limits.{shipLimits, loadLimits, columnLimits, holdLimits, placeLimits}
+use Rattle.record.specs.declared.WeightItem.{WeightItem}
+use Rattle.record.specs.declared.Weighing.{Weighing}
+use Rattle.record.specs.declared.Weighing.the-variants.{Weight, Weighed, Unweigh}
+use Rattle.limits.specs.Limits.{rise, shipLimits, loadLimits, columnLimits, holdLimits, placeLimits, itemLimits}
 use Rattle.columns.specs.Columns.{columnAnswer}
+use Rattle.items.specs.Carried.{carried}
+use Rattle.items.proofs.Kept.{same-within, kept-within}
 use Rattle.forms.specs.declared.Kind.{Kind}
-use Rattle.forms.specs.declared.Kind.the-variants.{ShipLine, ColumnLine, LoadLine, HoldLine, DropLine, JudgeLine, ClearLine, ShowLine, TotalLine, NoShape}
+use Rattle.forms.specs.declared.Kind.the-variants.{ShipLine, ColumnLine, LoadLine, HoldLine, DropLine, JudgeLine, ClearLine, ShowLine, TotalLine, WeighingLine, NoShape}
 use Rattle.forms.specs.declared.Request.{Request}
-use Rattle.forms.specs.Carried.{carriedShip, carriedLoad, carriedColumn, carriedHold, carriedKind, carriedRequest}
-use Rattle.forms.proofs.Kept.{same-ship, same-load, same-column, same-hold, kept-ship, kept-load, kept-column}
+use Rattle.forms.specs.Carried.{carriedShip, carriedLoad, carriedColumn, carriedHold, carriedItem, carriedWeighing, carriedKind, carriedRequest}
+use Rattle.forms.proofs.Kept.{same-ship, same-load, same-column, same-hold, same-item, kept-ship, kept-load, kept-column, kept-item}
 use Rattle.request.specs.Shape.{requestOf}
 use Rattle.request.proofs.Tidy.{kept-hold}
 use Rattle.condition.specs.declared.Condition.{Condition}
-use Rattle.operations.specs.Operations.{shipOperation, loadOperation, columnOperation, holdOperation}
+use Rattle.operations.specs.Operations.{shipOperation, loadOperation, columnOperation, holdOperation, weighingOperation}
 use Rattle.panel.specs.Step.{outcomeBy, outcomeOf}
 
 module _ (c : Condition) where
@@ -43,6 +49,21 @@ module _ (c : Condition) where
   hold-by n h true e k = rw (k e)
   hold-by n h false e k = rw (same-hold h, e, and-false (placeLimits n))
 
+  weight-by : (i : WeightItem) (x : Bool) → itemLimits i ≡ x → weighingOperation c (Weight (carriedItem i)) ≡ weighingOperation c (Weight i)
+  unfolding weighingOperation
+  weight-by i true e = rw (kept-item i e)
+  weight-by i false e = rw (same-item i, e)
+
+  weighed-by : (fs : ℕ) (x : Bool) → rise fs ≡ x → weighingOperation c (Weighed (carried fs)) ≡ weighingOperation c (Weighed fs)
+  unfolding weighingOperation
+  weighed-by fs true e = rw (kept-within 0 10000 fs (omega arith) e)
+  weighed-by fs false e = rw (same-within 0 10000 fs (omega arith), e)
+
+  weighing-by : (w : Weighing) → weighingOperation c (carriedWeighing w) ≡ weighingOperation c w
+  weighing-by (Weight i) = weight-by i (itemLimits i) refl
+  weighing-by (Weighed fs) = weighed-by fs (rise fs) refl
+  weighing-by Unweigh = refl
+
   module _ (ts : List Token) (n : ℕ) where
     same-outcome : (k : Kind) (h : Hold) (col : Column) → (holdLimits h ≡ true → carriedHold h ≡ h) → outcomeBy c ts n (carriedKind k) (carriedHold h) (carriedColumn col) ≡ outcomeBy c ts n k h col
     same-outcome (ShipLine s) h col k = rw (ship-by s (shipLimits s) refl)
@@ -54,6 +75,7 @@ module _ (c : Condition) where
     same-outcome ClearLine h col k = refl
     same-outcome ShowLine h col k = refl
     same-outcome TotalLine h col k = refl
+    same-outcome (WeighingLine w) h col k = rw (weighing-by w)
     same-outcome NoShape h col k = refl
 
     pub carried-outcome : outcomeOf c ts n (carriedRequest (requestOf ts)) ≡ outcomeOf c ts n (requestOf ts)
@@ -71,6 +93,7 @@ carried-by JudgeLine e = cc
 carried-by ClearLine e = cc
 carried-by ShowLine e = refl
 carried-by TotalLine e = cc
+carried-by (WeighingLine w) e = cc
 carried-by NoShape e = cc
 
 pub carried-show : (ts : List Token) (r : Request) → r ≡ carriedRequest (requestOf ts) → r .kind ≡ ShowLine → requestOf ts .kind ≡ ShowLine

@@ -8,6 +8,7 @@ use Rattle.whole.specs.Lists.{all, isOneOf}
 use Rattle.whole.proofs.Lists.{among}
 use Rattle.record.specs.declared.Column.{Column}
 use Rattle.record.specs.declared.Hold.{Hold}
+use Rattle.record.specs.declared.Weighing.the-variants.{Weight, Weighed, Unweigh}
 use Rattle.stability.specs.declared.Judgement.{Judgement}
 use Rattle.stability.specs.declared.Judgement.the-variants.{Passed, ShortOfGm, ShortAtHeel, ShortBeyond, ShortOfArea}
 use Rattle.stability.specs.Verdict.{judgementCode, verdictOf}
@@ -16,7 +17,7 @@ use Rattle.line_codes.specs.declared.Reading.the-variants.{Sound, TooLong, BadB
 use Rattle.text.specs.Token.{Token, tokens}
 use Rattle.line_codes.specs.Line.{readingOf}
 use Rattle.forms.specs.declared.Kind.{Kind}
-use Rattle.forms.specs.declared.Kind.the-variants.{ShipLine, ColumnLine, LoadLine, HoldLine, DropLine, JudgeLine, ClearLine, ShowLine, TotalLine, NoShape}
+use Rattle.forms.specs.declared.Kind.the-variants.{ShipLine, ColumnLine, LoadLine, HoldLine, DropLine, JudgeLine, ClearLine, ShowLine, TotalLine, WeighingLine, NoShape}
 use Rattle.forms.specs.declared.Request.{Request}
 use Rattle.request.specs.Shape.{requestOf}
 use Rattle.condition.specs.declared.Condition.{Condition}
@@ -24,7 +25,7 @@ use Rattle.judging.specs.declared.Judged.{Judged}
 use Rattle.judging.specs.Judge.{basisAt}
 use Rattle.judging.proofs.Shown.{refusals, judged-by}
 use Rattle.operations.specs.Operations.{Change}
-use Rattle.operations.proofs.Right.{Right, right-taken, right-same, right-if, ship-right, load-right, column-right, hold-right, drop-right}
+use Rattle.operations.proofs.Right.{Right, right-taken, right-same, right-if, ship-right, load-right, column-right, hold-right, drop-right, weighingCodes, weighing-right}
 use Rattle.panel.specs.Step.{Outcome, verdictGiven, showCode, outcomeBy, outcomeOf, outcomeAfter, stepOf}
 
 -- the codes of each request
@@ -38,11 +39,12 @@ codesOf JudgeLine = 0 ∷ 30 ∷ 31 ∷ 32 ∷ 33 ∷ 34 ∷ 40 ∷ 41 ∷ 42 �
 codesOf ClearLine = 0 ∷ []
 codesOf ShowLine = 0 ∷ 16 ∷ []
 codesOf TotalLine = 0 ∷ []
+codesOf (WeighingLine w) = weighingCodes w
 codesOf NoShape = 14 ∷ []
 
 -- and of all requests
 abbrev pub requestCodes : List ℕ
-requestCodes = 0 ∷ 14 ∷ 16 ∷ 20 ∷ 21 ∷ 22 ∷ 23 ∷ 24 ∷ 30 ∷ 31 ∷ 32 ∷ 33 ∷ 34 ∷ 40 ∷ 41 ∷ 42 ∷ 43 ∷ []
+requestCodes = 0 ∷ 14 ∷ 16 ∷ 20 ∷ 21 ∷ 22 ∷ 23 ∷ 24 ∷ 26 ∷ 27 ∷ 30 ∷ 31 ∷ 32 ∷ 33 ∷ 34 ∷ 40 ∷ 41 ∷ 42 ∷ 43 ∷ []
 
 codes-listed : (k : Kind) → all (isOneOf requestCodes) (codesOf k) ≡ true
 unfolding all isOneOf
@@ -55,6 +57,9 @@ codes-listed JudgeLine = refl
 codes-listed ClearLine = refl
 codes-listed ShowLine = refl
 codes-listed TotalLine = refl
+codes-listed (WeighingLine (Weight i)) = refl
+codes-listed (WeighingLine (Weighed fs)) = refl
+codes-listed (WeighingLine Unweigh) = refl
 codes-listed NoShape = refl
 
 -- of every line
@@ -98,6 +103,7 @@ module _ (c : Condition) where
     right-by ClearLine h col = right-taken c _ refl
     right-by ShowLine h col = right-same c (showCode lent) (show-listed (ltb lent 2100))
     right-by TotalLine h col = right-same c 0 refl
+    right-by (WeighingLine w) h col = weighing-right c w
     right-by NoShape h col = right-same c _ refl
 
     pub request-code : (k : Kind) (h : Hold) (col : Column) → isOneOf requestCodes (outcomeBy c ts lent k h col .code) ≡ true

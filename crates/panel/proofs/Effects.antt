@@ -5,9 +5,11 @@ use Prim.Native.Nat.{ℕ}
 use borrow.Author.Tests.{lt-leb}
 use Rattle.record.specs.declared.Column.{Column}
 use Rattle.record.specs.declared.Hold.{Hold}
+use Rattle.record.specs.declared.Weighing.{Weighing}
+use Rattle.record.specs.declared.Weighing.the-variants.{Weight, Weighed, Unweigh}
 use Rattle.record.specs.Held.{held}
 use Rattle.forms.specs.declared.Kind.{Kind}
-use Rattle.forms.specs.declared.Kind.the-variants.{ShipLine, ColumnLine, LoadLine, HoldLine, DropLine, JudgeLine, ClearLine, ShowLine, TotalLine, NoShape}
+use Rattle.forms.specs.declared.Kind.the-variants.{ShipLine, ColumnLine, LoadLine, HoldLine, DropLine, JudgeLine, ClearLine, ShowLine, TotalLine, WeighingLine, NoShape}
 use Rattle.forms.specs.declared.Request.{Request}
 use Rattle.text.specs.Token.{Token}
 use Rattle.condition.specs.declared.Condition.{Condition}
@@ -15,17 +17,23 @@ use Rattle.judging.specs.declared.Judged.{Judged}
 use Rattle.judging.specs.declared.Judged.the-variants.{Refused, Given}
 use Rattle.judging.specs.Judge.{judgedOf}
 use Rattle.storing.proofs.Taking.{taken-is}
-use Rattle.operations.proofs.Effects.{ship-effect, load-effect, column-passed, column-effect, hold-passed, hold-effect, drop-passed, drop-effect}
+use Rattle.operations.specs.Operations.{weighingOperation}
+use Rattle.operations.proofs.Effects.{ship-effect, load-effect, column-passed, column-effect, hold-passed, hold-effect, drop-passed, drop-effect, weight-passed, weight-effect, weighed-effect, unweigh-taken}
 use Rattle.operations.proofs.Taking.{answer-moment}
 use Rattle.panel.specs.Step.{verdictGiven, outcomeBy, outcomeOf}
 use Rattle.panel.specs.Handed.{momentBy, momentFound}
-use Rattle.effects.specs.Effect.{effectBy, effectOf}
+use Rattle.effects.specs.Effect.{weighingEffect, effectBy, effectOf}
 
 module _ (c : Condition) where
   -- judge changes nothing
   pub judge-same : (j : Judged) → verdictGiven c j .after ≡ c
   judge-same (Refused code) = refl
   judge-same (Given v) = refl
+
+  weighing-by : (w : Weighing) → weighingOperation c w .code ≡ 0 → weighingEffect c w ≡ weighingOperation c w .after
+  weighing-by (Weight i) e = rw (weight-passed c i e .1) (weight-effect c i e)
+  weighing-by (Weighed fs) e = weighed-effect c fs e
+  weighing-by Unweigh e = rw (unweigh-taken c)
 
   module _ (ts : List Token) (n : ℕ) where
     effect-by : (k : Kind) (h : Hold) (col : Column) → outcomeBy c ts n k h col .code ≡ 0 → effectBy c k h col (momentBy k h) ≡ outcomeBy c ts n k h col .after
@@ -39,6 +47,7 @@ module _ (c : Condition) where
     effect-by ClearLine h col e = refl
     effect-by ShowLine h col e = refl
     effect-by TotalLine h col e = refl
+    effect-by (WeighingLine w) h col e = weighing-by w e
     effect-by NoShape h col e = refl
 
     pub effect-is : (r : Request) → outcomeOf c ts n r .code ≡ 0 → effectOf c r (momentFound r) ≡ outcomeOf c ts n r .after

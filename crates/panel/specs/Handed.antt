@@ -10,7 +10,7 @@ use Rattle.record.specs.declared.Hold.{Hold}
 use Rattle.grain.specs.Sum.{weighedMoment}
 use Rattle.reply.specs.Written.{over}
 use Rattle.forms.specs.declared.Kind.{Kind}
-use Rattle.forms.specs.declared.Kind.the-variants.{ShipLine, ColumnLine, LoadLine, HoldLine, DropLine, JudgeLine, ClearLine, ShowLine, TotalLine, NoShape}
+use Rattle.forms.specs.declared.Kind.the-variants.{ShipLine, ColumnLine, LoadLine, HoldLine, DropLine, JudgeLine, ClearLine, ShowLine, TotalLine, WeighingLine, NoShape}
 use Rattle.forms.specs.declared.Request.{Request}
 use Rattle.operations.specs.Operations.{holdAnswer}
 use Rattle.hearing.specs.declared.Heard.{Heard}
@@ -28,6 +28,7 @@ momentBy JudgeLine h = 0
 momentBy ClearLine h = 0
 momentBy ShowLine h = 0
 momentBy TotalLine h = 0
+momentBy (WeighingLine w) h = 0
 momentBy NoShape h = 0
 
 abbrev pub momentFound : Request → ℕ

@@ -12,7 +12,7 @@ use Rattle.line_codes.specs.declared.Reading.the-variants.{Sound, TooLong, BadB
 use Rattle.text.specs.Token.{Token, tokens}
 use Rattle.line_codes.specs.Line.{readingOf, readingCode}
 use Rattle.forms.specs.declared.Kind.{Kind}
-use Rattle.forms.specs.declared.Kind.the-variants.{ShipLine, ColumnLine, LoadLine, HoldLine, DropLine, JudgeLine, ClearLine, ShowLine, TotalLine, NoShape}
+use Rattle.forms.specs.declared.Kind.the-variants.{ShipLine, ColumnLine, LoadLine, HoldLine, DropLine, JudgeLine, ClearLine, ShowLine, TotalLine, WeighingLine, NoShape}
 use Rattle.forms.specs.declared.Request.{Request}
 use Rattle.request.specs.Shape.{requestOf, kindCode}
 use lib.ListN.{length}
@@ -25,7 +25,7 @@ use Rattle.panel.specs.declared.Stepped.{Stepped}
 use Rattle.judging.specs.declared.Judged.{Judged}
 use Rattle.judging.specs.declared.Judged.the-variants.{Refused, Given}
 use Rattle.judging.specs.Judge.{judgedOf}
-use Rattle.operations.specs.Operations.{Change, taken, refusedWith, shipOperation, loadOperation, columnOperation, holdOperation, dropOperation}
+use Rattle.operations.specs.Operations.{Change, taken, refusedWith, shipOperation, loadOperation, columnOperation, holdOperation, dropOperation, weighingOperation}
 
 pub record Outcome : Type 0 where
   pub code : ℕ
@@ -80,6 +80,7 @@ outcomeBy c ts n JudgeLine h k = verdictGiven c (judgedOf c)
 outcomeBy c ts n ClearLine h k = answered (taken empty)
 outcomeBy c ts n ShowLine h k = formShown c ts n
 outcomeBy c ts n TotalLine h k = totalShown c
+outcomeBy c ts n (WeighingLine w) h k = answered (weighingOperation c w)
 outcomeBy c ts n NoShape h k = answered (refusedWith (kindCode NoShape) c)
 
 unfoldable pub outcomeOf : Condition → List Token → (n : ℕ) → Request → Outcome

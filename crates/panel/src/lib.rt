@@ -58,7 +58,7 @@ fn answer_weighed(w: Weighed, out: &mut [u8]) -> Replied
     requires { ⌜ 96 ≤ length (now out) ⌝ }
     ensures { λ r. ⌜ Replies (weighedCode w) (answerReply (weighedCode w)) (weighedMoment w) r (now (out .entry)) (now (out .exit)) ⌝ }
 {
-    let mut r = answer_with(operations::weighed_code(w), out);
+    let mut r = answer_with(operations::hold_code(w), out);
     r.moment = total::weighed_moment(w);
     r
 }
@@ -130,6 +130,7 @@ fn reply_to(c: Condition, line: &[u8], r: Request, out: &mut [u8]) -> Replied
     let kind = r.kind;
     let h = r.hold;
     let k = r.column;
+    let sums = c.sums;
     match kind {
         Kind::ShipLine(s) => answer_with(operations::ship_code(s), out),
         Kind::ColumnLine => answer_with(operations::column_code(c, k), out),
@@ -140,6 +141,7 @@ fn reply_to(c: Condition, line: &[u8], r: Request, out: &mut [u8]) -> Replied
         Kind::ClearLine => answer_with(0, out),
         Kind::ShowLine => show_form(line, out),
         Kind::TotalLine => show_total(c.total, out),
+        Kind::WeighingLine(w) => answer_with(operations::weighing_code(sums, w), out),
         Kind::NoShape => answer_with(14, out),
     }
 }

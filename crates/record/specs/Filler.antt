@@ -9,6 +9,8 @@ use Rattle.record.specs.declared.Part.{Part}
 use Rattle.record.specs.declared.Hold.{Hold}
 use Rattle.record.specs.declared.Column.{Column}
 use Rattle.record.specs.declared.Columns.{Columns}
+use Rattle.record.specs.declared.WeightItem.{WeightItem}
+use Rattle.record.specs.declared.ItemSums.{ItemSums}
 
 abbrev pub noSlot : Slot
 noSlot = record { cell = Void 0 0 0 }
@@ -27,6 +29,14 @@ noColumn = record { d = 0; km = 0; kn = replicate 10 0 }
 -- no columns
 abbrev pub noColumns : Columns
 noColumns = record { count = 0; places = replicate 20 noColumn }
+
+-- no item
+abbrev pub noItem : WeightItem
+noItem = record { tonnes = 0; height = 0 }
+
+-- the sums of no items
+abbrev pub noSums : ItemSums
+noSums = record { tonnes = 0; products = 0 }
 
 -- a list in the first of n places
 unfoldable pub padded : {A : Type 0} → ℕ → A → List A → List A

@@ -1,7 +1,7 @@
 // The records of a loading condition, and what stands in their unused places.
 ghost use mathlib.Core.Path.{_≡_};
 ghost use Rattle.record.specs.Held.{cellWidth, cellLip};
-ghost use Rattle.record.specs.Filler.{noSlot, noPart, noHold, noColumn, noColumns};
+ghost use Rattle.record.specs.Filler.{noSlot, noPart, noHold, noColumn, noColumns, noSums};
 
 // The rule that judges the ship, with the angle of deck-edge immersion, in hundredths of a degree.
 pub enum Rule {
@@ -87,6 +87,25 @@ pub struct Head {
 pub struct Hold {
     pub head: Head,
     pub parts: [Part; 6],
+}
+
+// A weight of the ship: tonnes, at a height in mm above the keel, as KG.
+pub struct WeightItem {
+    pub tonnes: u32,
+    pub height: u16,
+}
+
+// The sums of weight items: their tonnes, and the products of tonnes and height.
+pub struct ItemSums {
+    pub tonnes: u32,
+    pub products: u64,
+}
+
+// What a line of weights asks for: one item more; the load that the items make, with this free-surface rise; to remove all items.
+pub enum Weighing {
+    Weight(WeightItem),
+    Weighed(u16),
+    Unweigh,
 }
 
 pub fn width_of(cell: Cell) -> u16
@@ -189,4 +208,14 @@ pub fn no_columns() -> Columns
     let k = no_column();
     let places = [k; 20];
     Columns { count: 0, places }
+}
+
+// The sums of no items.
+pub fn no_sums() -> ItemSums
+    ensures { λ r. ⌜ r ≡ noSums ⌝ }
+{
+    ItemSums {
+        tonnes: 0,
+        products: 0,
+    }
 }

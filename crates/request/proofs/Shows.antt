@@ -4,14 +4,18 @@ use mathlib.Core.Bool.{Bool, true, false, cond}
 use mathlib.Core.List.{List, [], _∷_}
 use Prim.Native.Nat.{ℕ}
 use Rattle.text.specs.Token.{Token}
-use Rattle.items.specs.Grammar.{Parsed, got, none, _andThen_, close?, head?, is, named, whole?}
-use Rattle.forms.specs.declared.Kind.the-variants.{ShowLine, TotalLine, NoShape}
+use Rattle.items.specs.Grammar.{Parsed, got, none, _andThen_, close?, head?, is, whole?}
+use Rattle.items.specs.declared.Place.{Place}
+use Rattle.items.specs.Carried.{carry}
+use Rattle.items.specs.Places.{Ends}
+use Rattle.forms.specs.declared.Kind.{Kind}
+use Rattle.forms.specs.declared.Kind.the-variants.{ShowLine, NoShape}
 use Rattle.forms.specs.declared.Request.{Request}
 use Rattle.forms.specs.Shape.{plain, bare?, formWord, formBy, form?}
-use Rattle.forms.specs.Carried.{carriedRequest}
-use Rattle.request.specs.declared.LineWord.{LineWord}
-use Rattle.request.specs.Shape.{show?, line?, requestOf}
-use Rattle.request.specs.Word.{FirstWord, plainly, inShow, word?, lineWord, lineBy, formOf, around?}
+use Rattle.forms.specs.Carried.{carriedKind, carriedRequest}
+use Rattle.forms.proofs.Records.{bare-kept}
+use Rattle.request.specs.Shape.{show?, lineWord, lineBy, line?, requestOf}
+use Rattle.request.specs.Word.{FirstWord, plainly, inShow, word?, formOf, around?}
 
 as-read : (r : Parsed Request) → r ≡ (r andThen around? false)
 as-read (got a ts) = refl
@@ -25,28 +29,16 @@ inside : (h : Parsed (List ℕ)) → (h andThen (λ w vs. formBy (formWord w) vs
 inside (got w vs) = refl
 inside none = refl
 
--- a line that is no show, by its word
-abbrev plain? : List ℕ → List Token → Parsed Request
-plain? r us = cond (is r "total") (bare? TotalLine us) (formBy (formWord r) us)
-
-chosen : (x : Bool) (v w : LineWord) (us : List Token) → cond x (lineBy v us) (lineBy w us) ≡ lineBy (cond x v w) us
-chosen true v w us = refl
-chosen false v w us = refl
-
-no-show : (r : List ℕ) (us : List Token) → plain? r us ≡ lineBy (lineWord false r) us
-unfolding named
-no-show r us = chosen (is r "total") _ _ us
-
-by-word : (x : Bool) (r : List ℕ) (us : List Token) → cond x ((head? us andThen λ w vs. formBy (formWord w) vs) andThen λ r us. bare? ShowLine us) (plain? r us) ≡ (cond x (head? us andThen λ w vs. got (inShow w) vs) (got (plainly r) us)) andThen then?
+by-word : (x : Bool) (r : List ℕ) (us : List Token) → cond x ((head? us andThen λ w vs. formBy (formWord w) vs) andThen λ r us. bare? ShowLine us) (lineBy (lineWord r) us) ≡ (cond x (head? us andThen λ w vs. got (inShow w) vs) (got (plainly r) us)) andThen then?
 by-word true r us = inside (head? us)
-by-word false r us = no-show r us ∙ as-read (lineBy (lineWord false r) us)
+by-word false r us = as-read (lineBy (lineWord r) us)
 
 pub line-by-word : (ts : List Token) → line? ts ≡ (word? ts andThen then?)
 unfolding line? word? show? form?
 line-by-word ts = by (head? ts)
   where
     by : (h : Parsed (List ℕ)) →
-        (h andThen λ r us. cond (is r "show") ((head? us andThen λ w vs. formBy (formWord w) vs) andThen λ r us. bare? ShowLine us) (plain? r us))
+        (h andThen λ r us. cond (is r "show") ((head? us andThen λ w vs. formBy (formWord w) vs) andThen λ r us. bare? ShowLine us) (lineBy (lineWord r) us))
         ≡ (h andThen λ r us. cond (is r "show") (head? us andThen λ w vs. got (inShow w) vs) (got (plainly r) us)) andThen then?
     by (got r us) = by-word (is r "show") r us
     by none = refl
@@ -76,3 +68,7 @@ show-carried ts = by (close? ts)
     by (got u []) = refl
     by (got u (t ∷ us)) = refl
     by none = refl
+
+-- a line of a kind that holds no numbers is carried as it is
+pub bare-ends : (k : Kind) (ts : List Token) (s : List ℕ) (a : Request) (end : Place) → carriedKind k ≡ k → Ends (bare? k ts) s a end → Ends (carry carriedRequest (bare? k ts)) s a end
+bare-ends k ts s a end e p = rw (bare-kept k ts e) p

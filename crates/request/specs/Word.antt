@@ -2,19 +2,20 @@
 -- reader has to believe it.
 use mathlib.Core.Path.{_≡_}
 use mathlib.Core.Bool.{Bool, true, false, cond}
-use mathlib.Core.List.{List, [], _∷_}
+use mathlib.Core.List.{List}
 use Prim.Native.Nat.{ℕ, _-_, _≤_}
 use lib.ListN.{take, drop}
 use Rattle.text.specs.Token.{Token}
-use Rattle.items.specs.Grammar.{Parsed, got, none, _andThen_, head?, is, named}
+use Rattle.items.specs.Grammar.{Parsed, got, none, _andThen_, head?, is}
 use Rattle.items.specs.Places.{Reads}
-use Rattle.forms.specs.declared.Kind.the-variants.{ShowLine, TotalLine}
+use Rattle.forms.specs.declared.Kind.the-variants.{ShowLine}
 use Rattle.forms.specs.declared.Request.{Request}
-use Rattle.forms.specs.Shape.{bare?, formWord, formBy}
+use Rattle.forms.specs.Shape.{bare?, formWord}
 use Rattle.request.specs.declared.Word.{Word}
 use Rattle.request.specs.declared.Word.the-variants.{Of, NoForm}
 use Rattle.request.specs.declared.LineWord.{LineWord}
-use Rattle.request.specs.declared.LineWord.the-variants.{OfForm, TotalWord}
+use Rattle.request.specs.declared.LineWord.the-variants.{OfForm}
+use Rattle.request.specs.Shape.{lineWord, lineBy}
 
 -- a word, and whether it is that of a form inside a show
 pub record FirstWord : Type 0 where
@@ -30,18 +31,14 @@ inShow w = record { shown = true; word = w }
 unfoldable pub word? : List Token → Parsed FirstWord
 word? ts = head? ts andThen λ r us. cond (is r "show") (head? us andThen λ w vs. got (inShow w) vs) (got (plainly r) us)
 
--- a line by its word, inside a show or not, and the shape of what stands behind it
-abbrev pub lineWord : Bool → List ℕ → LineWord
-lineWord true r = OfForm (formWord r)
-lineWord false r = named (("total", TotalWord) ∷ []) (OfForm (formWord r)) r
-
-abbrev pub lineBy : LineWord → List Token → Parsed Request
-lineBy (OfForm w) ts = formBy w ts
-lineBy TotalWord ts = bare? TotalLine ts
+-- a line by its word; inside a show stands only a form of document 01
+abbrev pub lineNamed : Bool → List ℕ → LineWord
+lineNamed true r = OfForm (formWord r)
+lineNamed false r = lineWord r
 
 -- what stands behind this word
 abbrev pub formOf : FirstWord → List Token → Parsed Request
-formOf w ts = lineBy (lineWord (w .shown) (w .word)) ts
+formOf w ts = lineBy (lineNamed (w .shown) (w .word)) ts
 
 -- the request of a form that was read, or of the show around it
 abbrev pub around? : Bool → Request → List Token → Parsed Request

@@ -3,20 +3,23 @@ use forms::Form;
 use forms::FormWord;
 use forms::Kind;
 use forms::Request;
+use items::Item;
 use items::Place;
 use items::Span;
+use record::Weighing;
+use record::WeightItem;
 ghost use mathlib.Core.Path.{_≡_};
 ghost use Prim.Native.Nat.{_≤_};
 ghost use lib.ListN.{length, drop};
 ghost use Rattle.text.specs.Token.{tokens};
 ghost use Rattle.items.specs.Carried.{carry};
-ghost use Rattle.items.specs.Grammar.{whole?};
+ghost use Rattle.items.specs.Grammar.{named, whole?};
 ghost use Rattle.items.specs.Places.{Ends};
 ghost use Rattle.forms.specs.Shape.{plain as Shape·plain, bare?};
 ghost use Rattle.forms.specs.Carried.{carriedRequest};
-ghost use Rattle.request.specs.Shape.{requestOf};
-ghost use Rattle.request.specs.Word.{word?, WordIs};
-ghost use Rattle.request.specs.Word.{lineWord as Word·lineWord, lineBy as Word·lineBy};
+ghost use Rattle.request.specs.Shape.{weight?, weighed?, lineWords, requestOf};
+ghost use Rattle.request.specs.Shape.{lineBy as Shape·lineBy};
+ghost use Rattle.request.specs.Word.{word?, WordIs, lineNamed};
 
 // The word of a line's form, from a place to a place, and whether the form is inside a show.
 pub enum Word {
@@ -28,6 +31,9 @@ pub enum Word {
 pub enum LineWord {
     OfForm(FormWord),
     TotalWord,
+    WeightWord,
+    WeighedWord,
+    UnweighWord,
 }
 
 // The word of a line's form; in a show line, that of the form inside.
@@ -46,28 +52,82 @@ fn first_word(s: &[u8]) -> Word
     Word::Of(a, q, false)
 }
 
+// A line by its word: one that no show takes, or else this form.
+fn plain_word(word: &[u8], form: FormWord) -> LineWord
+    ensures { λ r. ⌜ r ≡ named lineWords (LineWord.OfForm form) (now (word .entry)) ⌝ }
+{
+    if text::same(word, b"total") {
+        return LineWord::TotalWord;
+    }
+    if text::same(word, b"weight") {
+        return LineWord::WeightWord;
+    }
+    if text::same(word, b"weighed") {
+        return LineWord::WeighedWord;
+    }
+    if text::same(word, b"unweigh") {
+        return LineWord::UnweighWord;
+    }
+    LineWord::OfForm(form)
+}
+
 // A line by its word. Inside a show stands only a form of document 01.
 fn line_word(word: &[u8], shown: bool) -> LineWord
-    ensures { λ r. ⌜ r ≡ Word·lineWord shown (now (word .entry)) ⌝ }
+    ensures { λ r. ⌜ r ≡ lineNamed shown (now (word .entry)) ⌝ }
 {
     let form = forms::form_word(word);
     if shown {
         return LineWord::OfForm(form);
     }
-    if text::same(word, b"total") {
-        return LineWord::TotalWord;
+    plain_word(word, form)
+}
+
+// `T H)`
+fn weight_at(s: &[u8], at: usize) -> Form
+    requires { ⌜ at ≤ length (now s) ⌝ }
+    ensures { λ r. ⌜ Ends (carry carriedRequest (weight? (tokens (drop at (now (s .entry)))))) (now (s .entry)) (r .request) (r .end) ⌝ }
+{
+    let Item::Value(tonnes, q) = items::number_at(s, at) else {
+        return forms::no_form();
+    };
+    let t = items::sizes_at(s, q, 1);
+    let end = t.end;
+    let v = t.values;
+    let item = WeightItem {
+        tonnes,
+        height: v[0],
+    };
+    Form {
+        request: forms::plain(Kind::WeighingLine(Weighing::Weight(item))),
+        end,
     }
-    LineWord::OfForm(form)
+}
+
+// `FS)`
+fn weighed_at(s: &[u8], at: usize) -> Form
+    requires { ⌜ at ≤ length (now s) ⌝ }
+    ensures { λ r. ⌜ Ends (carry carriedRequest (weighed? (tokens (drop at (now (s .entry)))))) (now (s .entry)) (r .request) (r .end) ⌝ }
+{
+    let t = items::sizes_at(s, at, 1);
+    let end = t.end;
+    let v = t.values;
+    Form {
+        request: forms::plain(Kind::WeighingLine(Weighing::Weighed(v[0]))),
+        end,
+    }
 }
 
 // What stands behind a line's word.
 fn line_by(s: &[u8], at: usize, word: LineWord) -> Form
     requires { ⌜ at ≤ length (now s) ⌝ }
-    ensures { λ r. ⌜ Ends (carry carriedRequest (Word·lineBy word (tokens (drop at (now (s .entry)))))) (now (s .entry)) (r .request) (r .end) ⌝ }
+    ensures { λ r. ⌜ Ends (carry carriedRequest (Shape·lineBy word (tokens (drop at (now (s .entry)))))) (now (s .entry)) (r .request) (r .end) ⌝ }
 {
     match word {
         LineWord::OfForm(form) => forms::form_by(s, at, form),
         LineWord::TotalWord => forms::bare_at(s, at, Kind::TotalLine),
+        LineWord::WeightWord => weight_at(s, at),
+        LineWord::WeighedWord => weighed_at(s, at),
+        LineWord::UnweighWord => forms::bare_at(s, at, Kind::WeighingLine(Weighing::Unweigh)),
     }
 }
 

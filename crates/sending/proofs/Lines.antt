@@ -18,9 +18,9 @@ use Rattle.spelling.proofs.Reading.{tokens-spell}
 use Rattle.items.specs.Grammar.{got}
 use Rattle.items.proofs.Yields.{Each}
 use Rattle.forms.specs.declared.Request.{Request}
-use Rattle.forms.specs.Shape.{form?}
-use Rattle.showing.proofs.Forms.{form-request}
-use Rattle.showing.proofs.Laws.{form-sound}
+use Rattle.request.specs.Shape.{line?}
+use Rattle.showing.proofs.Forms.{line-request}
+use Rattle.showing.proofs.Laws.{spelled-sound}
 use Rattle.condition.specs.declared.Condition.{Condition}
 use Rattle.panel.specs.Step.{outcomeOf, stepOf}
 use Rattle.sending.specs.Printed.{word, number, numbers, form}
@@ -89,13 +89,13 @@ pub fine-numbers : (vs : List ℕ) → Each Small vs → Fine (7 * length vs) (n
 fine-numbers [] p = fine-none
 fine-numbers (v ∷ vs) p = fine-more (omega arith) (fine-number v (p .0) (fine-numbers vs (p .1)))
 
--- ---- tokens that are read as a form, and fine: their line does what the form asks for
+-- ---- tokens that are read as a line, and fine: it does what it asks for
 pub record Asks (ts : List Token) (a : Request) : Type 0 where
-  pub reads : form? ts ≡ got a []
+  pub reads : line? ts ≡ got a []
   pub fine : Fine 2000 ts
 
 pub line-does : {ts : List Token} {a : Request} → Asks ts a → (c : Condition) (lent : ℕ) → 96 ≤ lent → stepOf c (spell ts) lent ≡ outcomeOf c ts lent a
 unfolding stepOf
 line-does {ts = ts} {a = a} f c lent h =
-    let sound = form-sound ts a (f .reads) (f .fine .properly) (f .fine .sound) (omega (arith, spell-room ts)) in
-    rw (le-ltb lent 96 h, sound, tokens-spell ts (f .fine .properly), form-request ts a (f .reads))
+    let sound = spelled-sound ts a (f .reads) (f .fine .properly) (f .fine .sound) (omega (arith, spell-room ts)) in
+    rw (le-ltb lent 96 h, sound, tokens-spell ts (f .fine .properly), line-request ts a (f .reads))

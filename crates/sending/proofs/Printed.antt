@@ -17,19 +17,22 @@ use Rattle.record.specs.declared.Cell.{Cell}
 use Rattle.record.specs.declared.Cell.the-variants.{Wing, Hatch, Void}
 use Rattle.record.specs.declared.Part.{Part}
 use Rattle.record.specs.declared.Hold.{Hold}
+use Rattle.record.specs.declared.WeightItem.{WeightItem}
+use Rattle.record.specs.declared.Weighing.the-variants.{Weight}
 use Rattle.record.specs.Held.{cellsOf, partsOf}
 use Rattle.record.proofs.Taken.{cells-length}
 use Rattle.limits.specs.Limits.{edge}
-use Rattle.limits.specs.Ranges.{EdgeRange, ShipRange, LoadRange, ColumnRange, CellRange, SectionRange}
+use Rattle.limits.specs.Ranges.{EdgeRange, ShipRange, LoadRange, ColumnRange, CellRange, SectionRange, ItemRange}
 use Rattle.limits.proofs.Ranges.{hold-range, place-range}
 use Rattle.text.specs.Token.{Token, opened, closed, same}
 use Rattle.items.specs.Grammar.{Parsed, got, none, open?, close?, run?, head?, named, number?, numbers?, lastNumbers?, items?, several?}
 use Rattle.items.proofs.Yields.{Each, Several}
 use Rattle.parts.specs.Shape.{sectionRecord, cell?, section?, slack?, body?, part?}
 use Rattle.forms.specs.declared.ModeNamed.the-variants.{As}
-use Rattle.forms.specs.declared.Kind.the-variants.{ShipLine, LoadLine}
-use Rattle.forms.specs.Shape.{plain, columnRequest, holdRequest, ship?, column?, load?, modeNamed, parts?, hold?, form?}
-use Rattle.sending.specs.Printed.{word, number, numbers, form, eachForm, ruleWord, shipTokens, loadTokens, columnTokens, cellTokens, sectionItems, partItems, partTokens, modeWord, holdTokens}
+use Rattle.forms.specs.declared.Kind.the-variants.{ShipLine, LoadLine, WeighingLine}
+use Rattle.forms.specs.Shape.{plain, columnRequest, holdRequest, ship?, column?, load?, modeNamed, parts?, hold?}
+use Rattle.request.specs.Shape.{weight?, line?}
+use Rattle.sending.specs.Printed.{word, number, numbers, form, eachForm, ruleWord, shipTokens, loadTokens, columnTokens, cellTokens, sectionItems, partItems, partTokens, modeWord, holdTokens, itemTokens}
 use Rattle.sending.proofs.Decimals.{decimal-is-read-back}
 use Rattle.sending.proofs.Lines.{Fine, fine-none, fine-more, fine-token, fine-append, fine-brackets, fine-form, Small, fine-number, fine-numbers, Asks}
 use Rattle.sending.proofs.Refilled.{slackNumbers, refilledPart, refilled, GoodPart, GoodHold}
@@ -139,7 +142,7 @@ fine-mode Voided f = fine-more (omega arith) (fine-token (word "voided") refl re
 fine-mode Partial f = fine-token (word "partial") refl refl f
 
 pub print-hold : (n : ℕ) (h : Hold) → GoodHold n h → Asks (holdTokens n h) (holdRequest n (refilled h))
-unfolding form? hold? parts? head? open? run? named same all within
+unfolding line? hold? parts? head? open? run? named same all within
 print-hold n h g =
     let m = h .head .mode in
     let ps = partsOf h in
@@ -161,7 +164,7 @@ print-hold n h g =
 
 -- ---- ship, load, column
 print-rule : (r : Rule) (flood : ℕ) → EdgeRange r → flood ≤ 9000 → Asks (form "ship" (word (ruleWord r) ∷ numbers (edge r ∷ flood ∷ []))) (plain (ShipLine (record { rule = r; flood = flood })))
-unfolding form? ship? head? open? run? named same all within
+unfolding line? ship? head? open? run? named same all within
 print-rule (New e) flood p q =
     let vs : List ℕ = e ∷ flood ∷ [] in
     let s : Each Small vs = (omega arith, (omega arith, tt)) in
@@ -175,7 +178,7 @@ pub print-ship : (s : Ship) → ShipRange s → Asks (shipTokens s) (plain (Ship
 print-ship s r = print-rule (s .rule) (s .flood) (r .0) (r .2)
 
 pub print-load : (l : Load) → LoadRange l → Asks (loadTokens l) (plain (LoadLine l))
-unfolding form? load? head? open? run? named same all within
+unfolding line? load? head? open? run? named same all within
 print-load l r =
     let vs : List ℕ = l .kg ∷ l .fs ∷ [] in
     let s : Each Small vs = (omega arith, (omega arith, tt)) in
@@ -186,7 +189,7 @@ print-load l r =
     }
 
 pub print-column : (k : Column) → ColumnRange k → length (k .kn) ≡ 10 → Asks (columnTokens k) (columnRequest k)
-unfolding form? column? head? open? run? close? named same all within
+unfolding line? column? head? open? run? close? named same all within
 print-column k r n =
     let s = each-from Small (k .kn) 0 (λ i h. omega (arith, r .5 i h)) in
     let d : Small (k .d) = omega arith in
@@ -198,4 +201,16 @@ print-column k r n =
       fine =
           fine-more (omega arith)
           (fine-form "column" refl refl (fine-number (k .d) d (fine-number (k .km) m (fine-brackets (fine-numbers (k .kn) s)))));
+    }
+
+-- ---- a weight item
+pub print-item : (i : WeightItem) → ItemRange i → Asks (itemTokens i) (plain (WeighingLine (Weight i)))
+unfolding line? weight? head? open? run? named same all within
+print-item i r =
+    let vs : List ℕ = i .height ∷ [] in
+    let s : Each Small vs = (omega arith, tt) in
+    let t : Small (i .tonnes) = omega arith in
+    record {
+      reads = rw (read-number (i .tonnes) (numbers vs ++ closed ∷ []) t, read-last vs [] s);
+      fine = fine-more (omega arith) (fine-form "weight" refl refl (fine-number (i .tonnes) t (fine-numbers vs s)));
     }

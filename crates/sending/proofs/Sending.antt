@@ -5,38 +5,44 @@ use mathlib.Core.List.{List, [], _∷_, _++_, map, append-nil}
 use Prim.Native.Nat.{ℕ, suc, _+_, _-_, _≤_, _<_}
 use native.Mathlib.Omega.{arith}
 use lib.Dec.{eqb}
+use borrow.Author.Tests.{le-leb}
 use lib.ListN.{length, getD, replicate, length-append, length-map, List·getD-map}
 use lib.Seq.{set-at, append-snoc, length-take-le, getD-take}
-use Rattle.whole.specs.Lists.{all}
+use Rattle.whole.specs.Lists.{all, sumOf}
 use Rattle.record.specs.declared.Ship.{Ship}
 use Rattle.record.specs.declared.Load.{Load}
 use Rattle.record.specs.declared.Column.{Column}
 use Rattle.record.specs.declared.Columns.{Columns}
 use Rattle.record.specs.declared.Hold.{Hold}
-use Rattle.record.specs.Filler.{noColumn, noColumns, noPart, noHold}
+use Rattle.record.specs.declared.WeightItem.{WeightItem}
+use Rattle.record.specs.Filler.{noColumn, noColumns, noPart, noHold, noItem, noSums}
 use Rattle.record.specs.Held.{held, partsOf}
 use Rattle.columns.specs.declared.Added.the-variants.{Taken}
 use Rattle.columns.specs.Columns.{columnAnswer, withColumn}
 use Rattle.limits.specs.Limits.{shipLimits, loadLimits}
 use Rattle.grain.specs.Sum.{weightMoment}
-use Rattle.limits.proofs.Ranges.{ship-range, load-range, column-range, hold-range}
+use Rattle.limits.specs.Ranges.{ItemRange}
+use Rattle.limits.proofs.Ranges.{ship-range, load-range, column-range, hold-range, item-range}
+use Rattle.weights.specs.Weights.{hasRoom, withItem}
+use Rattle.weights.specs.Items.{sumsOf, SumsRange, itemsOf}
+use Rattle.weights.proofs.Items.{sums-of-items, items-of-sums, more-is, more-range, addAll, added}
 use Rattle.text.specs.Token.{Token}
 use Rattle.items.proofs.Yields.{Each}
 use Rattle.spelling.specs.Spelling.{spell}
 use Rattle.condition.specs.declared.Condition.{Condition}
 use Rattle.condition.specs.Condition.{noShip, noLoad, empty, isHeld}
-use Rattle.storing.specs.Storing.{withShip, withLoad, withColumns, withHold}
+use Rattle.storing.specs.Storing.{withShip, withLoad, withColumns, withHold, withSums}
 use Rattle.storing.proofs.Taking.{taken-is}
 use Rattle.storing.proofs.Columns.{Fitting, held-length, fitting-more, held-more}
 use Rattle.operations.specs.Operations.{taken}
-use Rattle.operations.proofs.Effects.{ship-passed, ship-taken, load-passed, load-taken, column-passed, column-taken, column-effect, hold-passed, hold-taken}
+use Rattle.operations.proofs.Effects.{ship-passed, ship-taken, load-passed, load-taken, column-passed, column-taken, column-effect, hold-passed, hold-taken, weight-taken}
 use Rattle.panel.specs.Step.{Outcome, answered, outcomeOf, stepOf, conditionAfter, outcomes}
 use Rattle.sending.specs.Within.{Within, ColumnsTaken}
-use Rattle.sending.specs.Printed.{shipTokens, loadTokens, columnTokens, holdTokens}
+use Rattle.sending.specs.Printed.{shipTokens, loadTokens, columnTokens, holdTokens, itemTokens}
 use Rattle.sending.specs.Sending.{formIf, holdForms, asLines, SameHold}
 use Rattle.sending.specs.Laws.{RecordsCanBeSent}
 use Rattle.sending.proofs.Lines.{line-does}
-use Rattle.sending.proofs.Printed.{each-from, print-ship, print-load, print-column, print-hold}
+use Rattle.sending.proofs.Printed.{each-from, print-ship, print-load, print-column, print-hold, print-item}
 use Rattle.sending.proofs.Refilled.{refilled, refilledPlace, GoodPart, GoodHold, same-place, refilled-passes}
 
 -- ---- what one record does
@@ -59,6 +65,10 @@ module _ (lent : ℕ) (room : 96 ≤ lent) (c : Condition) where
   unfolding outcomeOf
   hold-does n h g =
       line-does (print-hold n h g) c lent room ∙ ap answered (hold-taken c n (refilled h) (refilled-passes n h g))
+
+  item-does : (i : WeightItem) → ItemRange i → hasRoom (c .sums) i ≡ true → stepOf c (spell (itemTokens i)) lent ≡ answered (taken (withSums c (withItem (c .sums) i)))
+  unfolding outcomeOf
+  item-does i r h = line-does (print-item i r) c lent room ∙ ap answered (weight-taken c i (item-range i .1 r) h)
 
 -- ---- forms that are sent one after the other, each taken with 00, lead from one condition to another
 data Leads (lent : ℕ) : Condition → List (List Token) → Condition → Type 0 where
@@ -84,10 +94,10 @@ abbrev withAll : Columns → List Column → Columns
 withAll cs [] = cs
 withAll cs (k ∷ ks) = withAll (withColumn cs k) ks
 
--- on the way from the empty condition: the ship of c or none, its load or none, these columns, holds and figure
+-- on the way from the empty condition: the ship of c or none, its load or none, these columns, holds and figure, and no weight items
 abbrev on : Condition → (shipped loaded : Bool) → Columns → List Hold → (figure : ℕ) → Condition
 on c x y cs hs t =
-    record { shipped = x; ship = cond x (c .ship) noShip; loaded = y; load = cond y (c .load) noLoad; columns = cs; holds = hs; total = t }
+    record { shipped = x; ship = cond x (c .ship) noShip; loaded = y; load = cond y (c .load) noLoad; columns = cs; holds = hs; total = t; sums = noSums }
 
 module _ (lent : ℕ) (room : 96 ≤ lent) (c : Condition) where
   ship-leads : (x : Bool) → (x ≡ true → shipLimits (c .ship) ≡ true) → Leads lent empty (formIf x (shipTokens (c .ship))) (on c x false noColumns (replicate 16 noHold) 0)
@@ -125,6 +135,18 @@ module _ (lent : ℕ) (room : 96 ≤ lent) (c : Condition) where
           let here = hold-leads (isHeld h) m done (replicate (length hs) noHold) h t n (g 0 (suc m) (omega arith) (omega arith)) in
           let behind = holds-lead (suc m) (done ++ refilledPlace h ∷ []) hs (here .0) (length-append done (refilledPlace h ∷ []) ∙ omega arith) (λ i k e l. g (suc i) k (omega arith) (omega arith)) in
           (behind .0, leads-then (here .1) (rw (append-snoc done (refilledPlace h) (replicate (length hs) noHold), append-snoc done (refilledPlace h) (map refilledPlace hs)) at (behind .1)))
+
+-- ---- weight items, sent to any condition, add their sums
+items-lead :
+    (lent : ℕ) → 96 ≤ lent → (c : Condition) (items : List WeightItem) → SumsRange (c .sums) → ((n : ℕ) → n < length items → ItemRange (getD items n noItem)) →
+    c .sums .tonnes + sumsOf items .tonnes ≤ 400000 → Leads lent c (map itemTokens items) (withSums c (addAll (c .sums) items))
+unfolding sumOf addAll
+items-lead lent room c [] range r most = none
+items-lead lent room c (i ∷ items) range r most =
+    let fits = le-leb (c .sums .tonnes + i .tonnes) 400000 (omega arith) in
+    let m = more-is (c .sums) i range (r 0 (omega arith)) fits in
+    one (item-does lent room c i (r 0 (omega arith)) fits)
+    (items-lead lent room (withSums c (withItem (c .sums) i)) items (more-range (c .sums) i range (r 0 (omega arith)) fits) (λ n h. r (suc n) (omega arith)) (rw m (omega arith)))
 
 -- ---- what a condition within its limits gives
 module _ (c : Condition) (w : Within c) where
@@ -170,7 +192,9 @@ records-can-be-sent c lent w room =
     let load = load-leads lent room c x y cs hs (λ e. load-passed empty (c .load) (w .load e)) in
     let put = holds-lead lent room c x y cs 0 [] (c .holds) 0 refl (good c w) in
     let holds : Leads lent (on c x y cs hs 0) (holdForms 1 (c .holds)) (on c x y cs (map refilledPlace (c .holds)) (put .0)) = rw (w .places .holdPlaces) at (put .1) in
-    let all = leads-then ship (leads-then (columns .0) (leads-then load holds)) in (
+    let given = items-of-sums (c .sums) (sums-of-items (c .sums) .0 (w .sums)) in
+    let items = items-lead lent room (on c x y cs (map refilledPlace (c .holds)) (put .0)) (itemsOf (c .sums)) (omega arith, omega arith) (given .0 .ranges) (omega (arith, given .0 .most)) in
+    let all = leads-then ship (leads-then (columns .0) (leads-then load (leads-then holds items))) in (
       leads-codes all,
       rw (leads-after all)
           (record {
@@ -181,5 +205,6 @@ records-can-be-sent c lent w room =
             load = λ e. rw e;
             places = length-map (c .holds) refilledPlace ∙ w .places .holdPlaces;
             holds = same-holds c w;
+            sums = added (itemsOf (c .sums)) (given .0) ∙ given .1;
           }),
     )

@@ -14,6 +14,7 @@ use Rattle.record.specs.declared.Cell.{Cell}
 use Rattle.record.specs.declared.Cell.the-variants.{Wing, Hatch, Void}
 use Rattle.record.specs.declared.Part.{Part}
 use Rattle.record.specs.declared.Hold.{Hold}
+use Rattle.record.specs.declared.WeightItem.{WeightItem}
 use Rattle.record.specs.Held.{cellsOf, partsOf}
 use Rattle.limits.specs.Limits.{edge}
 use Rattle.text.specs.Token.{Token, opened, closed, run}
@@ -83,3 +84,7 @@ modeWord Partial = "partial"
 abbrev pub holdTokens : ℕ → Hold → List Token
 holdTokens n h =
     form "hold" (number n ∷ word (modeWord (h .head .mode)) ∷ number (h .head .factor) ∷ eachForm (partTokens (h .head .mode)) (partsOf h))
+
+-- `(weight T H)`
+abbrev pub itemTokens : WeightItem → List Token
+itemTokens i = form "weight" (numbers (i .tonnes ∷ i .height ∷ []))

@@ -1,5 +1,5 @@
 -- Document 01: the records of a condition "sent as lines to a cleared panel", here in the one spelling of document 02, P2; and when a panel
--- has the same records.
+-- has the same records. The weight items of document 02, P5, are kept by their sums: sent are at most two items that give them.
 use mathlib.Core.Path.{_≡_}
 use mathlib.Core.Bool.{Bool, true, cond}
 use mathlib.Core.List.{List, [], _∷_, _++_, map}
@@ -13,10 +13,11 @@ use Rattle.record.specs.Held.{held, cellsOf}
 use Rattle.record.specs.Filler.{noPart, noHold}
 use Rattle.text.specs.Token.{Token}
 use Rattle.spelling.specs.Spelling.{spell}
+use Rattle.weights.specs.Items.{itemsOf}
 use Rattle.condition.specs.declared.Condition.{Condition}
 use Rattle.condition.specs.Condition.{isHeld}
 use Rattle.panel.specs.Step.{Sent}
-use Rattle.sending.specs.Printed.{shipTokens, loadTokens, columnTokens, holdTokens}
+use Rattle.sending.specs.Printed.{shipTokens, loadTokens, columnTokens, holdTokens, itemTokens}
 
 -- where there is a record, its form
 abbrev pub formIf : Bool → List Token → List (List Token)
@@ -27,11 +28,12 @@ unfoldable pub holdForms : ℕ → List Hold → List (List Token)
 holdForms n [] = []
 holdForms n (h ∷ hs) = formIf (isHeld h) (holdTokens n h) ++ holdForms (suc n) hs
 
--- ship, columns in their order, load, holds
+-- ship, columns in their order, load, holds, weight items
 abbrev pub recordForms : Condition → List (List Token)
 recordForms c =
     formIf (c .shipped) (shipTokens (c .ship))
-    ++ (map columnTokens (held (c .columns)) ++ (formIf (c .loaded) (loadTokens (c .load)) ++ holdForms 1 (c .holds)))
+    ++ (map columnTokens (held (c .columns))
+    ++ (formIf (c .loaded) (loadTokens (c .load)) ++ (holdForms 1 (c .holds) ++ map itemTokens (itemsOf (c .sums)))))
 
 -- as lines in the one spelling, each with a buffer of this length
 abbrev pub asLines : (lent : ℕ) → List (List Token) → List Sent
@@ -58,3 +60,4 @@ pub record SameRecords (c after : Condition) : Type 0 where
   pub load : c .loaded ≡ true → after .load ≡ c .load
   pub places : length (after .holds) ≡ 16
   pub holds : (n : ℕ) → n < 16 → SameHold (getD (c .holds) n noHold) (getD (after .holds) n noHold)
+  pub sums : after .sums ≡ c .sums

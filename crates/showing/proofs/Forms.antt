@@ -2,9 +2,11 @@
 use mathlib.Core.Path.{_≡_, refl, sym, _∙_, ap}
 use mathlib.Core.Bool.{Bool, true, false, cond}
 use mathlib.Core.List.{List, [], _∷_, _++_, append-nil}
-use Prim.Native.Nat.{ℕ}
+use Prim.Native.Nat.{ℕ, _<_}
 use native.Mathlib.Omega.{arith}
+use lib.Dec.{eqb}
 use Rattle.whole.specs.Bytes.{bytes}
+use Rattle.record.specs.declared.Weighing.the-variants.{Weight, Weighed, Unweigh}
 use Rattle.text.specs.Token.{Token, opened, closed, run, same}
 use Rattle.text.proofs.Runs.{same-true}
 use Rattle.items.specs.Grammar.{Parsed, got, none, _andThen_, open?, close?, run?, head?, is, named, number?, lastNumbers?, several?, whole?}
@@ -17,11 +19,13 @@ use Rattle.forms.specs.declared.ModeNamed.the-variants.{As, NoMode}
 use Rattle.forms.specs.declared.FormWord.{FormWord}
 use Rattle.forms.specs.declared.FormWord.the-variants.{ShipWord, ColumnWord, LoadWord, HoldWord, DropWord, JudgeWord, ClearWord, NoWord}
 use Rattle.forms.specs.declared.Kind.{Kind}
-use Rattle.forms.specs.declared.Kind.the-variants.{ShipLine, ColumnLine, LoadLine, HoldLine, DropLine, JudgeLine, ClearLine, ShowLine, TotalLine, NoShape}
+use Rattle.forms.specs.declared.Kind.the-variants.{ShipLine, ColumnLine, LoadLine, HoldLine, DropLine, JudgeLine, ClearLine, ShowLine, TotalLine, WeighingLine, NoShape}
 use Rattle.forms.specs.declared.Request.{Request}
 use Rattle.forms.specs.Shape.{plain, ruleNamed, shipBy, ship?, column?, load?, modeNamed, partsBy, parts?, hold?, drop?, bare?, formWord, formBy, form?}
-use Rattle.request.specs.Shape.{show?, line?, requestOf}
-use Rattle.showing.specs.Laws.{OfDocument01, ship, column, load, hold, drop, judge, clear, ShowOf, TakenAsTotal, TotalOnly}
+use Rattle.request.specs.declared.LineWord.{LineWord}
+use Rattle.request.specs.declared.LineWord.the-variants.{OfForm, TotalWord, WeightWord, WeighedWord, UnweighWord}
+use Rattle.request.specs.Shape.{show?, weight?, weighed?, lineWord, lineBy, line?, requestOf}
+use Rattle.showing.specs.Laws.{OfDocument01, ship, column, load, hold, drop, judge, clear, ShowOf}
 use Rattle.showing.proofs.Framing.{clash, form-frames}
 
 -- ---- what a form yields
@@ -58,8 +62,8 @@ form-kind : (ts : List Token) (a : Request) (us : List Token) → form? ts ≡ g
 unfolding form?
 form-kind ts a us e = yielded Of01 a us (yields-then (head? ts) (λ r ws. form-by (formWord r) ws)) e
 
--- the kinds in four: one of these, a show, one that no show takes, none
-abbrev sortOf : Kind → ℕ
+-- the kinds by their lines: one of these, a show, none, and each that no show takes
+abbrev pub sortOf : Kind → ℕ
 sortOf (ShipLine s) = 0
 sortOf ColumnLine = 0
 sortOf (LoadLine l) = 0
@@ -68,8 +72,11 @@ sortOf (DropLine n) = 0
 sortOf JudgeLine = 0
 sortOf ClearLine = 0
 sortOf ShowLine = 1
-sortOf TotalLine = 2
-sortOf NoShape = 3
+sortOf NoShape = 2
+sortOf TotalLine = 3
+sortOf (WeighingLine (Weight i)) = 4
+sortOf (WeighingLine (Weighed fs)) = 5
+sortOf (WeighingLine Unweigh) = 6
 
 sort-01 : {k : Kind} → OfDocument01 k → sortOf k ≡ 0
 sort-01 ship = refl
@@ -80,21 +87,74 @@ sort-01 drop = refl
 sort-01 judge = refl
 sort-01 clear = refl
 
--- ---- a line is a form, a show of one, or a total
-data Read (ts : List Token) (a : Request) (us : List Token) : Type 0 where
+-- ---- a line is a form, a show of one, or begins with a word of its own
+abbrev pub ownWord : LineWord → List ℕ
+ownWord (OfForm w) = []
+ownWord TotalWord = bytes "total"
+ownWord WeightWord = bytes "weight"
+ownWord WeighedWord = bytes "weighed"
+ownWord UnweighWord = bytes "unweigh"
+
+abbrev pub ownSort : LineWord → ℕ
+ownSort (OfForm w) = 0
+ownSort TotalWord = 3
+ownSort WeightWord = 4
+ownSort WeighedWord = 5
+ownSort UnweighWord = 6
+
+-- it is told from forms, shows and no shape, and the words from each other
+own-late : (w : LineWord) → 0 < ownSort w → 2 < ownSort w
+own-late (OfForm w) own = absurd (omega arith)
+own-late TotalWord own = omega arith
+own-late WeightWord own = omega arith
+own-late WeighedWord own = omega arith
+own-late UnweighWord own = omega arith
+
+abbrev wordBy : ℕ → LineWord
+wordBy n = cond (eqb n 3) TotalWord (cond (eqb n 4) WeightWord (cond (eqb n 5) WeighedWord UnweighWord))
+
+word-back : (w : LineWord) → 0 < ownSort w → wordBy (ownSort w) ≡ w
+word-back (OfForm w) own = absurd (omega arith)
+word-back TotalWord own = refl
+word-back WeightWord own = refl
+word-back WeighedWord own = refl
+word-back UnweighWord own = refl
+
+-- what such a line yields
+own-yields : (w : LineWord) (ts : List Token) → 0 < ownSort w → Yields (λ (r : Request). sortOf (r .kind) ≡ ownSort w) (lineBy w ts)
+unfolding bare? weight? weighed?
+own-yields (OfForm w) ts own = absurd (omega arith)
+own-yields TotalWord ts own = yields-then (close? ts) (λ u us. yields refl)
+own-yields WeightWord ts own = yields-then (number? ts) (λ t us. yields-then (lastNumbers? 1 us) (λ v ws. yields refl))
+own-yields WeighedWord ts own = yields-then (lastNumbers? 1 ts) (λ v us. yields refl)
+own-yields UnweighWord ts own = yields-then (close? ts) (λ u us. yields refl)
+
+own-kind : (w : LineWord) (vs : List Token) (a : Request) (us : List Token) → 0 < ownSort w → lineBy w vs ≡ got a us → sortOf (a .kind) ≡ ownSort w
+own-kind w vs a us own e = yielded (λ r. sortOf (r .kind) ≡ ownSort w) a us (own-yields w vs own) e
+
+-- a run names such a line, or a form
+data Named (r : List ℕ) : LineWord → Type 0 where
+  by-word : {w : LineWord} → 0 < ownSort w → r ≡ ownWord w → Named r w
+  by-form : {w : LineWord} → w ≡ OfForm (formWord r) → Named r w
+
+named-as : (r : List ℕ) → Named r (lineWord r)
+unfolding named
+named-as r =
+    by (is r "total") (λ e. by-word (omega arith) (same-true r (bytes "total") e))
+    (by (is r "weight") (λ e. by-word (omega arith) (same-true r (bytes "weight") e))
+    (by (is r "weighed") (λ e. by-word (omega arith) (same-true r (bytes "weighed") e))
+    (by (is r "unweigh") (λ e. by-word (omega arith) (same-true r (bytes "unweigh") e)) (by-form refl))))
+  where
+    by : (x : Bool) {v w : LineWord} → (x ≡ true → Named r v) → Named r w → Named r (cond x v w)
+    by true p q = p refl
+    by false p q = q
+
+pub data Read (ts : List Token) (a : Request) (us : List Token) : Type 0 where
   a-form : form? ts ≡ got a us → Read ts a us
   a-show : (vs : List Token) → ts ≡ opened ∷ run (bytes "show") ∷ vs → show? vs ≡ got a us → Read ts a us
-  a-total : (vs : List Token) → ts ≡ opened ∷ run (bytes "total") ∷ vs → bare? TotalLine vs ≡ got a us → Read ts a us
+  an-own : (w : LineWord) (vs : List Token) → sortOf (a .kind) ≡ ownSort w → 0 < ownSort w → ts ≡ opened ∷ run (ownWord w) ∷ vs → lineBy w vs ≡ got a us → Read ts a us
 
--- what a total reads: the bracket behind its word
-total-reads : (vs : List Token) (a : Request) (us : List Token) → bare? TotalLine vs ≡ got a us → (sortOf (a .kind) ≡ 2) × (vs ≡ closed ∷ us)
-unfolding bare? close?
-total-reads [] a us e = clash e
-total-reads (opened ∷ vs) a us e = clash e
-total-reads (run r ∷ vs) a us e = clash e
-total-reads (closed ∷ vs) a us e = let k : plain TotalLine ≡ a = cc in (rw (← k) refl, cc)
-
-read-line : (ts : List Token) (a : Request) (us : List Token) → line? ts ≡ got a us → Read ts a us
+pub read-line : (ts : List Token) (a : Request) (us : List Token) → line? ts ≡ got a us → Read ts a us
 unfolding line? form? head? open? run?
 read-line [] a us e = clash e
 read-line (closed ∷ ts) a us e = clash e
@@ -104,13 +164,22 @@ read-line (opened ∷ opened ∷ ts) a us e = clash e
 read-line (opened ∷ closed ∷ ts) a us e = clash e
 read-line (opened ∷ run r ∷ ts) a us e = by (is r "show") refl e
   where
-    no-show : (x : Bool) → is r "total" ≡ x → cond x (bare? TotalLine ts) (formBy (formWord r) ts) ≡ got a us → Read (opened ∷ run r ∷ ts) a us
-    no-show true p w = a-total ts (ap (λ q. opened ∷ run q ∷ ts) (same-true r (bytes "total") p)) w
-    no-show false p w = a-form w
+    no-show : (w : LineWord) → Named r w → lineBy w ts ≡ got a us → Read (opened ∷ run r ∷ ts) a us
+    no-show w (by-word s p) e = an-own w ts (own-kind w ts a us s e) s (ap (λ q. opened ∷ run q ∷ ts) p) e
+    no-show w (by-form p) e = a-form (rw p at e)
 
-    by : (x : Bool) → is r "show" ≡ x → cond x (show? ts) (cond (is r "total") (bare? TotalLine ts) (formBy (formWord r) ts)) ≡ got a us → Read (opened ∷ run r ∷ ts) a us
+    by : (x : Bool) → is r "show" ≡ x → cond x (show? ts) (lineBy (lineWord r) ts) ≡ got a us → Read (opened ∷ run r ∷ ts) a us
     by true p w = a-show ts (ap (λ q. opened ∷ run q ∷ ts) (same-true r (bytes "show") p)) w
-    by false p w = no-show (is r "total") refl w
+    by false p w = no-show (lineWord r) (named-as r) w
+
+-- a word of its own is no form's
+own-none : (w : LineWord) → 0 < ownSort w → formWord (ownWord w) ≡ NoWord
+unfolding named same
+own-none (OfForm w) own = absurd (omega arith)
+own-none TotalWord own = refl
+own-none WeightWord own = refl
+own-none WeighedWord own = refl
+own-none UnweighWord own = refl
 
 pub form-line : (ts : List Token) (a : Request) (us : List Token) → form? ts ≡ got a us → line? ts ≡ got a us
 unfolding line? form? head? open? run? named same
@@ -125,16 +194,13 @@ form-line (opened ∷ run r ∷ ts) a us e = by (is r "show") refl
     no-show : is r "show" ≡ true → formWord r ≡ NoWord
     no-show p = rw (same-true r (bytes "show") p)
 
-    no-total : is r "total" ≡ true → formWord r ≡ NoWord
-    no-total p = rw (same-true r (bytes "total") p)
+    other : (w : LineWord) → Named r w → lineBy w ts ≡ got a us
+    other w (by-word s p) = clash (rw (p, own-none w s) at e)
+    other w (by-form p) = rw p e
 
-    other : (x : Bool) → is r "total" ≡ x → cond x (bare? TotalLine ts) (formBy (formWord r) ts) ≡ got a us
-    other true p = clash (rw (no-total p) at e)
-    other false p = e
-
-    by : (x : Bool) → is r "show" ≡ x → cond x (show? ts) (cond (is r "total") (bare? TotalLine ts) (formBy (formWord r) ts)) ≡ got a us
+    by : (x : Bool) → is r "show" ≡ x → cond x (show? ts) (lineBy (lineWord r) ts) ≡ got a us
     by true p = clash (rw (no-show p) at e)
-    by false p = other (is r "total") refl
+    by false p = other (lineWord r) (named-as r)
 
 -- what a show reads: a form, and the bracket behind it
 show-reads : (vs : List Token) (a : Request) (us : List Token) → show? vs ≡ got a us → (a ≡ plain ShowLine) × ((b : Request) × (form? vs ≡ got b (closed ∷ us)))
@@ -162,10 +228,13 @@ pub shape-read : (ts : List Token) → (requestOf ts .kind ≡ NoShape → ⊥) 
 unfolding requestOf
 shape-read ts n = let w = whole-reads (line? ts) n in (w .0, w .1)
 
--- a form's request is what the form reads as
-pub form-request : (form : List Token) (a : Request) → form? form ≡ got a [] → requestOf form ≡ a
+-- the request of a line, or a form, is what it reads as
+pub line-request : (ts : List Token) (a : Request) → line? ts ≡ got a [] → requestOf ts ≡ a
 unfolding requestOf
-form-request form a e = rw (form-line form a [] e)
+line-request ts a e = rw e
+
+form-request : (form : List Token) (a : Request) → form? form ≡ got a [] → requestOf form ≡ a
+form-request form a e = line-request form a (form-line form a [] e)
 
 -- tokens that ask for one of document 01's forms are such a form
 pub asked-form : (form : List Token) → OfDocument01 (requestOf form .kind) → (a : Request) × (form? form ≡ got a [])
@@ -177,7 +246,7 @@ asked-form form k =
     by : (a : Request) → Of01 a → Read form a [] → (a : Request) × (form? form ≡ got a [])
     by a k (a-form e) = (a, e)
     by a k (a-show vs t e) = absurd (omega (arith, sort-01 k, ap (λ (r : Request). sortOf (r .kind)) (show-reads vs a [] e .0)))
-    by a k (a-total vs t e) = absurd (omega (arith, sort-01 k, total-reads vs a [] e .0))
+    by a k (an-own w vs s own t e) = absurd (omega (arith, sort-01 k))
 
 -- ---- a show
 pub show-found : (ts : List Token) → requestOf ts .kind ≡ ShowLine → (form : List Token) × ShowOf ts form
@@ -188,7 +257,7 @@ show-found ts k =
   where
     by : (a : Request) → a .kind ≡ ShowLine → Read ts a [] → (form : List Token) × ShowOf ts form
     by a k (a-form e) = absurd (omega (arith, sort-01 (form-kind ts a [] e), ap sortOf k))
-    by a k (a-total vs t e) = absurd (omega (arith, total-reads vs a [] e .0, ap sortOf k))
+    by a k (an-own w vs s own t e) = absurd (omega (arith, own-late w own, ap sortOf k))
     by a k (a-show vs t e) =
         let s = show-reads vs a [] e .1 in
         let f = form-frames vs (s .0) (closed ∷ []) (s .1) in
@@ -204,26 +273,14 @@ show-taken ts form w =
     let e : form? (form ++ closed ∷ []) ≡ got (a .0) (closed ∷ []) = ap (λ l. form? (l ++ closed ∷ [])) (sym front) ∙ f .again (closed ∷ []) in
     rw (w .0, e)
 
--- ---- a total
-total-found : (ts : List Token) → requestOf ts .kind ≡ TotalLine → ts ≡ opened ∷ run (bytes "total") ∷ closed ∷ []
+-- ---- a line with a word of its own: what it is read as has its kind
+pub own-found : (w : LineWord) (ts : List Token) → 0 < ownSort w → sortOf (requestOf ts .kind) ≡ ownSort w → (a : Request) × (requestOf ts ≡ a) × ((vs : List Token) × (ts ≡ opened ∷ run (ownWord w) ∷ vs) × (lineBy w vs ≡ got a []))
 unfolding requestOf
-total-found ts k =
-    let w = whole-reads (line? ts) (λ e. omega (arith, ap sortOf (sym e ∙ k))) in
-    by (w .0) (ap (λ (r : Request). r .kind) (sym (w .2)) ∙ k) (read-line ts (w .0) [] (w .1))
+own-found w ts own k =
+    let p = whole-reads (line? ts) (λ e. omega (arith, own-late w own, ap sortOf e)) in
+    (p .0, p .2, by (p .0) (ap (λ (r : Request). sortOf (r .kind)) (sym (p .2)) ∙ k) (read-line ts (p .0) [] (p .1)))
   where
-    by : (a : Request) → a .kind ≡ TotalLine → Read ts a [] → ts ≡ opened ∷ run (bytes "total") ∷ closed ∷ []
-    by a k (a-form e) = absurd (omega (arith, sort-01 (form-kind ts a [] e), ap sortOf k))
-    by a k (a-show vs t e) = absurd (omega (arith, ap (λ (r : Request). sortOf (r .kind)) (show-reads vs a [] e .0), ap sortOf k))
-    by a k (a-total vs t e) = t ∙ ap (λ l. opened ∷ run (bytes "total") ∷ l) (total-reads vs a [] e .1)
-
-pub total-only : TotalOnly
-unfolding requestOf line? head? open? run? bare? close? same
-total-only [] more = refl
-total-only (opened ∷ ts) more = refl
-total-only (run r ∷ ts) more = refl
-total-only (closed ∷ []) more = absurd (more refl)
-total-only (closed ∷ t ∷ ts) more = refl
-
-pub taken-as-total : TakenAsTotal
-unfolding requestOf line? head? open? run? bare? close? same
-taken-as-total ts = (total-found ts, λ e. rw e refl)
+    by : (a : Request) → sortOf (a .kind) ≡ ownSort w → Read ts a [] → (vs : List Token) × (ts ≡ opened ∷ run (ownWord w) ∷ vs) × (lineBy w vs ≡ got a [])
+    by a k (a-form e) = absurd (omega (arith, sort-01 (form-kind ts a [] e)))
+    by a k (a-show vs t e) = absurd (omega (arith, own-late w own, ap (λ (r : Request). sortOf (r .kind)) (show-reads vs a [] e .0)))
+    by a k (an-own u vs s p t e) = let q : u ≡ w = sym (word-back u p) ∙ ap wordBy (sym s ∙ k) ∙ word-back w own in (vs, rw (← q) t, rw (← q) e)

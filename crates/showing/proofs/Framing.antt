@@ -38,7 +38,7 @@ Frames {A = A} p = (ts : List Token) (a : A) (us : List Token) → p ts ≡ got 
 pub clash : {A B : Type 0} {a : A} {us : List Token} → none ≡ got a us → B
 clash e = let z : _≡_ {A = ℕ} 0 1 = cc in absurd (omega arith)
 
-read-same : {A : Type 0} {a b : A} {ts us : List Token} → got a ts ≡ got b us → (a ≡ b) × (ts ≡ us)
+pub read-same : {A : Type 0} {a b : A} {ts us : List Token} → got a ts ≡ got b us → (a ≡ b) × (ts ≡ us)
 read-same e = (cc, cc)
 
 -- ---- the ways to join readings

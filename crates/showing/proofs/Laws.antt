@@ -23,8 +23,7 @@ use Rattle.spelling.proofs.Lengths.{inner-length}
 use Rattle.items.specs.Grammar.{got}
 use Rattle.forms.specs.declared.Kind.the-variants.{NoShape}
 use Rattle.forms.specs.declared.Request.{Request}
-use Rattle.forms.specs.Shape.{form?}
-use Rattle.request.specs.Shape.{requestOf}
+use Rattle.request.specs.Shape.{line?, requestOf}
 use Rattle.showing.specs.Show.{formInside}
 use Rattle.showing.specs.Laws.{ShowOf, TakenAsShow, InsideIsTheForm, FormsHaveFewGaps, ShowIsShort, SpelledIsSound, SpelledAsksTheSame}
 use Rattle.showing.proofs.Shapes.{line-walks, form-gaps}
@@ -56,9 +55,9 @@ deep-enough : (x : Bool) → 4 ≤ cond x 5 4
 deep-enough true = omega arith
 deep-enough false = omega arith
 
-pub line-sound : (s : List ℕ) (form : List Token) (a : Request) → tokens s ≡ form → form? form ≡ got a [] → AllowedLine s → all soundToken form ≡ true → readingOf s ≡ Sound
+pub line-sound : (s : List ℕ) (form : List Token) (a : Request) → tokens s ≡ form → line? form ≡ got a [] → AllowedLine s → all soundToken form ≡ true → readingOf s ≡ Sound
 line-sound s form a e f l n =
-    let w = line-walks (deepest form) form a (deep-enough (isShow form)) (form-line form a [] f) in
+    let w = line-walks (deepest form) form a (deep-enough (isShow form)) f in
     is-sound s (l .long) (l .bytes) (rw (walk-tokens (deepest (tokens s)) s (l .bytes) before, e, w)) (rw e n)
 
 -- a line of a shape is four deep at most
@@ -67,9 +66,9 @@ shape-deep line a n =
     let r = shape-read (tokens line) n in
     rw (walk-tokens 4 line a before, line-walks 4 (tokens line) (r .0) (omega arith) (r .1))
 
--- the form, spelled
-pub form-sound : (form : List Token) (a : Request) → form? form ≡ got a [] → all proper form ≡ true → all soundToken form ≡ true → length (spell form) ≤ 2000 → readingOf (spell form) ≡ Sound
-form-sound form a f p n l = line-sound (spell form) form a (tokens-spell form p) f (record { long = l; bytes = spell-allowed form p }) n
+-- a line, spelled
+pub spelled-sound : (form : List Token) (a : Request) → line? form ≡ got a [] → all proper form ≡ true → all soundToken form ≡ true → length (spell form) ≤ 2000 → readingOf (spell form) ≡ Sound
+spelled-sound form a f p n l = line-sound (spell form) form a (tokens-spell form p) f (record { long = l; bytes = spell-allowed form p }) n
 
 -- ---- the form inside a show line
 within-show : (f : Token → Bool) (ts form : List Token) → ts ≡ opened ∷ run (bytes "show") ∷ form ++ closed ∷ [] → all f ts ≡ true → all f form ≡ true
@@ -92,7 +91,7 @@ module _ (line : List ℕ) (form : List Token) (w : ShowOf (tokens line) form) w
 pub spelled-is-sound : SpelledIsSound
 spelled-is-sound line form e w p =
     let a = asked-form form (w .1) in
-    form-sound form (a .0) (a .1) (form-proper line form w) (form-numbers line form w e) p
+    spelled-sound form (a .0) (form-line form (a .0) [] (a .1)) (form-proper line form w) (form-numbers line form w e) p
 
 pub spelled-asks-the-same : SpelledAsksTheSame
 spelled-asks-the-same line form w = ap requestOf (form-kept line form w)

@@ -8,6 +8,7 @@ use native.Mathlib.Omega.{arith}
 use borrow.Author.Tests.{lt-ltb}
 use Rattle.record.specs.declared.Mode.{Mode}
 use Rattle.record.specs.declared.Mode.the-variants.{Trimmed, Voided, Partial}
+use Rattle.record.specs.declared.Weighing.the-variants.{Unweigh}
 use Rattle.text.specs.declared.Number.{Number}
 use Rattle.text.specs.declared.Number.the-variants.{Is, Bad}
 use Rattle.text.specs.Token.{Token, opened, closed, run, numberOf}
@@ -26,10 +27,12 @@ use Rattle.forms.specs.declared.ModeNamed.the-variants.{As as Mode·As, NoMode}
 use Rattle.forms.specs.declared.FormWord.{FormWord}
 use Rattle.forms.specs.declared.FormWord.the-variants.{ShipWord, ColumnWord, LoadWord, HoldWord, DropWord, JudgeWord, ClearWord, NoWord as Form·NoWord}
 use Rattle.forms.specs.declared.Kind.{Kind}
-use Rattle.forms.specs.declared.Kind.the-variants.{JudgeLine, ClearLine, TotalLine}
+use Rattle.forms.specs.declared.Kind.the-variants.{JudgeLine, ClearLine, TotalLine, WeighingLine}
 use Rattle.forms.specs.declared.Request.{Request}
 use Rattle.forms.specs.Shape.{ruleNamed, shipBy, ship?, column?, load?, modeNamed, partsBy, parts?, hold?, drop?, bare?, formWord, formBy, form?}
-use Rattle.request.specs.Shape.{show?, line?}
+use Rattle.request.specs.declared.LineWord.{LineWord}
+use Rattle.request.specs.declared.LineWord.the-variants.{OfForm, TotalWord, WeightWord, WeighedWord, UnweighWord}
+use Rattle.request.specs.Shape.{show?, weight?, weighed?, lineWord, lineBy, line?}
 
 -- ---- the places where a bracket opens, and those where a run stands directly behind a closing bracket
 abbrev here : Token → List Token → ℕ
@@ -245,7 +248,17 @@ module _ (most total : ℕ) (end : Stand) where
     form-by k ClearWord ts p = weaker (omega arith) (bare-leaves k ClearLine ts p)
     form-by k Form·NoWord ts p = nothing
 
--- ---- a form from its first bracket to its last, and a line: a form, a show of one, or a total
+    -- and every line but show
+    line-by : (k : ℕ) (w : LineWord) (ts : List Token) → In d k ts → Leaves (Behind d (54 + k)) (lineBy w ts)
+    unfolding weight? weighed?
+    line-by k (OfForm w) ts p = form-by k w ts p
+    line-by k TotalWord ts p = weaker (omega arith) (bare-leaves k TotalLine ts p)
+    line-by k WeightWord ts p =
+        weaker (omega arith) (leaves-with (number-leaves d k ts p) (λ t us q. leaves-with (last-leave d k 1 us q) (λ v ws w. leaves w)))
+    line-by k WeighedWord ts p = weaker (omega arith) (leaves-with (last-leave d k 1 ts p) (λ v us q. leaves q))
+    line-by k UnweighWord ts p = weaker (omega arith) (bare-leaves k (WeighingLine Unweigh) ts p)
+
+-- ---- a form from its first bracket to its last, and a line: a show of a form, or any other
 abbrev Left : (most : ℕ) → List Token → (k : ℕ) → List Token → Type 0
 Left most ts k us = Behind most (opens ts) (along most before ts) 0 k us
 
@@ -272,8 +285,7 @@ line-leaves most h ts =
     leaves-if (is r "show")
     (leaves-with (leaves-with (head-leaves most n e 0 1 us (omega arith) (behind-in most n e p)) (λ q vs w. form-by most n e 1 (omega arith) 2 (formWord q) vs w)) (λ a ws w.
     leaves-with (close-leaves most n e 0 56 ws w) (λ u xs v. leaves v)))
-    (leaves-if (is r "total") (weaker most n e (omega arith) (bare-leaves most n e 0 (omega arith) 1 TotalLine us p))
-    (weaker most n e (omega arith) (form-by most n e 0 (omega arith) 1 (formWord r) us p))))
+    (weaker most n e (omega arith) (line-by most n e 0 (omega arith) 1 (lineWord r) us p)))
 
 -- nothing is left
 record Whole (most k : ℕ) (ts : List Token) : Type 0 where

@@ -1,4 +1,4 @@
--- The laws of show, and of total, which it does not take. Proved in proofs/Laws.antt and proofs/Forms.antt.
+-- The laws of show, and of the lines that it does not take: total and those of weights. Proved in proofs/Laws.antt, Forms.antt and Own.antt.
 use mathlib.Core.Path.{_≡_}
 use mathlib.Core.List.{List, [], _∷_, _++_}
 use mathlib.Core.Logic.{_↔_}
@@ -7,12 +7,15 @@ use lib.ListN.{length}
 use Rattle.whole.specs.Bytes.{bytes}
 use Rattle.record.specs.declared.Ship.{Ship}
 use Rattle.record.specs.declared.Load.{Load}
-use Rattle.text.specs.Token.{Token, opened, closed, run, tokens}
+use Rattle.record.specs.declared.Weighing.{Weighing}
+use Rattle.record.specs.declared.Weighing.the-variants.{Weight, Weighed, Unweigh}
+use Rattle.text.specs.declared.Number.the-variants.{Is}
+use Rattle.text.specs.Token.{Token, opened, closed, run, tokens, numberOf}
 use Rattle.line_codes.specs.declared.Reading.the-variants.{Sound}
 use Rattle.line_codes.specs.Line.{readingOf}
 use Rattle.spelling.specs.Spelling.{spell, bracketGaps}
 use Rattle.forms.specs.declared.Kind.{Kind}
-use Rattle.forms.specs.declared.Kind.the-variants.{ShipLine, ColumnLine, LoadLine, HoldLine, DropLine, JudgeLine, ClearLine, ShowLine, TotalLine, NoShape}
+use Rattle.forms.specs.declared.Kind.the-variants.{ShipLine, ColumnLine, LoadLine, HoldLine, DropLine, JudgeLine, ClearLine, ShowLine, TotalLine, WeighingLine, NoShape}
 use Rattle.request.specs.Shape.{requestOf}
 use Rattle.showing.specs.Show.{formInside, showReply}
 
@@ -67,3 +70,25 @@ TakenAsTotal = (ts : List Token) → (requestOf ts .kind ≡ TotalLine) ↔ (ts 
 -- with anything else behind its word it has no shape
 abbrev pub TotalOnly : Type 0
 TotalOnly = (behind : List Token) → (behind ≡ closed ∷ [] → ⊥) → requestOf (opened ∷ run (bytes "total") ∷ behind) .kind ≡ NoShape
+
+-- document 02, P5: these tokens are a line of weights that asks for this, whatever the spaces: `(weight T H)`, `(weighed FS)`, `(unweigh)`
+abbrev pub WeighingOf : Weighing → List Token → Type 0
+WeighingOf (Weight i) ts =
+    (t : List ℕ) × ((h : List ℕ) × (ts ≡ opened ∷ run (bytes "weight") ∷ run t ∷ run h ∷ closed ∷ []) × (numberOf t ≡ Is (i .tonnes)) × (numberOf h ≡ Is (i .height)))
+WeighingOf (Weighed fs) ts = (r : List ℕ) × (ts ≡ opened ∷ run (bytes "weighed") ∷ run r ∷ closed ∷ []) × (numberOf r ≡ Is fs)
+WeighingOf Unweigh ts = ts ≡ opened ∷ run (bytes "unweigh") ∷ closed ∷ []
+
+abbrev pub TakenAsWeighing : Type 0
+TakenAsWeighing = (ts : List Token) (w : Weighing) → (requestOf ts .kind ≡ WeighingLine w) ↔ WeighingOf w ts
+
+-- their words
+pub data WeighingWord : List ℕ → Type 0 where
+  weight : WeighingWord (bytes "weight")
+  weighed : WeighingWord (bytes "weighed")
+  unweigh : WeighingWord (bytes "unweigh")
+
+-- with anything else behind one of them a line has no shape
+abbrev pub WeighingOnly : Type 0
+WeighingOnly =
+    (word : List ℕ) (behind : List Token) → WeighingWord word → ((w : Weighing) → WeighingOf w (opened ∷ run word ∷ behind) → ⊥) →
+    requestOf (opened ∷ run word ∷ behind) .kind ≡ NoShape

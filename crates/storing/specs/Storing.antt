@@ -6,6 +6,7 @@ use Rattle.record.specs.declared.Ship.{Ship}
 use Rattle.record.specs.declared.Load.{Load}
 use Rattle.record.specs.declared.Columns.{Columns}
 use Rattle.record.specs.declared.Hold.{Hold}
+use Rattle.record.specs.declared.ItemSums.{ItemSums}
 use Rattle.record.specs.Filler.{noHold}
 use Rattle.condition.specs.declared.Condition.{Condition}
 use Rattle.total.specs.Total.{exchanged}
@@ -13,15 +14,15 @@ use Rattle.total.specs.Total.{exchanged}
 -- a new ship or load replaces the former one
 abbrev pub withShip : Condition → Ship → Condition
 withShip c s =
-    record { shipped = true; ship = s; loaded = c .loaded; load = c .load; columns = c .columns; holds = c .holds; total = c .total }
+    record { shipped = true; ship = s; loaded = c .loaded; load = c .load; columns = c .columns; holds = c .holds; total = c .total; sums = c .sums }
 
 abbrev pub withLoad : Condition → Load → Condition
 withLoad c l =
-    record { shipped = c .shipped; ship = c .ship; loaded = true; load = l; columns = c .columns; holds = c .holds; total = c .total }
+    record { shipped = c .shipped; ship = c .ship; loaded = true; load = l; columns = c .columns; holds = c .holds; total = c .total; sums = c .sums }
 
 abbrev pub withColumns : Condition → Columns → Condition
 withColumns c ks =
-    record { shipped = c .shipped; ship = c .ship; loaded = c .loaded; load = c .load; columns = ks; holds = c .holds; total = c .total }
+    record { shipped = c .shipped; ship = c .ship; loaded = c .loaded; load = c .load; columns = ks; holds = c .holds; total = c .total; sums = c .sums }
 
 -- hold N, from 1 on, stands in the place N − 1
 abbrev pub holdAt : Condition → ℕ → Hold
@@ -38,4 +39,19 @@ withHold c n h w =
       columns = c .columns;
       holds = set (c .holds) (n - 1) h;
       total = exchanged (c .total) (holdAt c n) w;
+      sums = c .sums;
+    }
+
+-- the weight items are kept by their sums
+abbrev pub withSums : Condition → ItemSums → Condition
+withSums c s =
+    record {
+      shipped = c .shipped;
+      ship = c .ship;
+      loaded = c .loaded;
+      load = c .load;
+      columns = c .columns;
+      holds = c .holds;
+      total = c .total;
+      sums = s;
     }

@@ -2,6 +2,7 @@
 use condition::Condition;
 use record::Column;
 use record::Hold;
+use record::ItemSums;
 use record::Load;
 use record::Ship;
 ghost use mathlib.Core.Path.{_≡_};
@@ -11,7 +12,7 @@ ghost use lib.Dec.{leb};
 ghost use Rattle.record.specs.Held.{held};
 ghost use Rattle.limits.specs.Limits.{placeLimits};
 ghost use Rattle.columns.specs.Columns.{withColumn};
-ghost use Rattle.storing.specs.Storing.{withShip, withLoad, withColumns, withHold};
+ghost use Rattle.storing.specs.Storing.{withShip, withLoad, withColumns, withHold, withSums};
 
 // The condition is large, and is copied wherever a function gives it: a line that is turned down never comes here.
 
@@ -61,5 +62,14 @@ pub fn with_hold(c: Condition, n: u32, h: Hold, moment: u64) -> Condition
     let mut after = c;
     after.total = figure;
     after.holds[place] = h;
+    after
+}
+
+// The weight items, kept by their sums.
+pub fn with_sums(c: Condition, s: ItemSums) -> Condition
+    ensures { λ r. ⌜ r ≡ withSums c s ⌝ }
+{
+    let mut after = c;
+    after.sums = s;
     after
 }

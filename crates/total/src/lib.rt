@@ -5,9 +5,6 @@ ghost use mathlib.Core.Path.{_≡_};
 ghost use Rattle.grain.specs.Sum.{weighedMoment};
 ghost use Rattle.total.specs.Total.{exchanged};
 
-// The most that the figure's 64 bits hold.
-const GREATEST_FIGURE: u64 = 18446744073709551615;
-
 // The weight moment that an answer gives, 0 where it gives none.
 pub fn weighed_moment(w: Weighed) -> u64
     ensures { λ r. ⌜ r ≡ weighedMoment w ⌝ }
@@ -24,8 +21,5 @@ pub fn exchange(figure: u64, old: Hold, moment: u64) -> u64
     ensures { λ r. ⌜ r ≡ exchanged figure old moment ⌝ }
 {
     let others = choice::beyond(figure, weighed_moment(grain::weigh(old)));
-    if GREATEST_FIGURE - others < moment {
-        return GREATEST_FIGURE;
-    }
-    others + moment
+    choice::capped_sum(others, moment)
 }

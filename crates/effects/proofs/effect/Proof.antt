@@ -44,7 +44,11 @@ returns-9 c = rw (c .enum-told5 .given .1) refl
 
 returns-10 : tie.Need-returns-10
 unfolding effectOf
-returns-10 c = rw (c .enum-told6 .given .1) refl
+returns-10 c = rw (c .before .before .kind5 .given .1) (c .weighing-effect .ensures)
+
+returns-11 : tie.Need-returns-11
+unfolding effectOf
+returns-11 c = rw (c .enum-told6 .given .1) refl
 
 pub effect-spec : {M : Type 1} → statement M
 effect-spec =
@@ -67,6 +71,8 @@ effect-spec =
     (λ c. search needs)
     (λ c. search needs)
     (λ c. search needs)
+    (λ c κs. search needs)
+    (λ c. search needs)
     returns
     returns-2
     returns-3
@@ -76,4 +82,5 @@ effect-spec =
     returns-7
     returns-8
     returns-9
-    returns-10)
+    returns-10
+    returns-11)

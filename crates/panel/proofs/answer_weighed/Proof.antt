@@ -6,7 +6,7 @@ use Rattle.panel.proofs.answer_weighed.Tie as tie
 returns : tie.Need-returns
 returns c =
     let k = c .before .before .before in
-    let a = rw (k .before .before .weighed-code .ensures) at (k .answer-with .ensures) in
+    let a = rw (k .before .before .hold-code .ensures) at (k .answer-with .ensures) in
     record { coded = a .coded; long = a .long; moment = c .weighed-moment .ensures; written = a .written }
 
 pub answer-weighed-spec : {M : Type 1} → statement M

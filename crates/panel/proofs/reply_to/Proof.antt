@@ -1,4 +1,5 @@
 -- `reply_to`: the reply to the request of a line.
+use mathlib.Core.Path.{refl}
 use Rattle.text.specs.Token.{tokens}
 use Rattle.operations.proofs.Taking.{hold-answered}
 use Rattle.panel.specs.Step.{outcomeOf}
@@ -11,7 +12,7 @@ returns : tie.Need-returns
 unfolding outcomeOf
 returns c =
     let k = c .before .before .before .before .before .before in
-    rw (k .kind .given .1, ← c .before .before .before .before .ship-code .ensures (k .before .before .before .before .before .before .args .c)) (c .before .before .answer-with .ensures)
+    rw (k .kind .given .1, ← c .before .before .before .before .ship-code .ensures (k .before .before .before .before .before .before .before .args .c)) (c .before .before .answer-with .ensures)
 
 returns-2 : tie.Need-returns-2
 unfolding outcomeOf
@@ -21,13 +22,13 @@ returns-3 : tie.Need-returns-3
 unfolding outcomeOf
 returns-3 c =
     let k = c .before .before .before .before .before .before in
-    rw (k .kind2 .given .1, ← c .before .before .before .before .load-code .ensures (k .before .before .before .before .before .before .args .c)) (c .before .before .answer-with3 .ensures)
+    rw (k .kind2 .given .1, ← c .before .before .before .before .load-code .ensures (k .before .before .before .before .before .before .before .args .c)) (c .before .before .answer-with3 .ensures)
 
 returns-4 : tie.Need-returns-4
 unfolding outcomeOf
 returns-4 c =
     let k = c .before .before .before .before .before .before in
-    let args = k .before .before .before .before .before .before .args in
+    let args = k .before .before .before .before .before .before .before .args in
     let a = rw (c .before .before .before .before .hold-answer .ensures) at (c .before .before .answer-weighed .ensures) in
     rw (k .kind3 .given .1, ← hold-answered (k .kind3 .given .0 .0) (args .r .hold) (args .c)) a
 
@@ -48,13 +49,12 @@ returns-7 c = rw (c .before .before .before .before .enum-told3 .given .1) (c .b
 show-form-requires : tie.Need-show-form-requires
 show-form-requires c κs =
     let t = c .before in
-    let k = t .before .before .before .before .before .before in
+    let k = t .before .before .before .before .before .before .before in
     (carried-show (tokens (k .args .line .now)) (k .args .r) (k .pre .0) (t .enum-told4 .given .1), k .pre .1)
 
 returns-8 : tie.Need-returns-8
 unfolding outcomeOf
 returns-8 c =
-    let k = c .before .before .before .before .before .before .before .before .before .before in
     rw (c .before .before .before .before .enum-told4 .given .1) (c .before .before .show-form .ensures)
 
 returns-9 : tie.Need-returns-9
@@ -63,7 +63,14 @@ returns-9 c = rw (c .before .before .before .before .enum-told5 .given .1) (c .b
 
 returns-10 : tie.Need-returns-10
 unfolding outcomeOf
-returns-10 c = rw (c .before .before .before .before .enum-told6 .given .1) (c .before .before .answer-with6 .ensures)
+returns-10 c =
+    let k = c .before .before .before .before .before .before in
+    let code = c .before .before .before .before .weighing-code .ensures (k .before .before .before .before .before .before .before .args .c) refl in
+    rw (k .kind5 .given .1, ← code) (c .before .before .answer-with6 .ensures)
+
+returns-11 : tie.Need-returns-11
+unfolding outcomeOf
+returns-11 c = rw (c .before .before .before .before .enum-told6 .given .1) (c .before .before .answer-with7 .ensures)
 
 pub reply-to-spec : {M : Type 1} → statement M
 reply-to-spec =
@@ -94,6 +101,9 @@ reply-to-spec =
     (λ c κs. search needs)
     (λ c. search needs)
     (λ c κs. search needs)
+    (λ c κs. search needs)
+    (λ c. search needs)
+    (λ c κs. search needs)
     (λ c. search needs)
     returns
     (λ c. search needs)
@@ -113,4 +123,6 @@ reply-to-spec =
     (λ c. search needs)
     returns-9
     (λ c. search needs)
-    returns-10)
+    returns-10
+    (λ c. search needs)
+    returns-11)

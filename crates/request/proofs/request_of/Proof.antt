@@ -16,7 +16,7 @@ use Rattle.forms.specs.declared.Request.{Request}
 use Rattle.forms.specs.Shape.{plain, bare?}
 use Rattle.forms.specs.Carried.{carriedRequest}
 use Rattle.request.specs.Shape.{requestOf}
-use Rattle.request.specs.Word.{FirstWord, word?, lineWord, formOf}
+use Rattle.request.specs.Word.{FirstWord, word?, lineNamed, formOf}
 use Rattle.request.proofs.Shows.{line-by-word, no-form-read, form-read, show-read, show-carried}
 use borrow.Author.Needs.{needs}
 use Rattle.request.proofs.request_of.Statement.{statement}
@@ -59,7 +59,7 @@ abbrev wordAt : tie.After-line-by → tie.After-a
 wordAt f = f .before .before .before .before
 
 form-ends : (f : tie.After-line-by) (end : Place) → f .line-by .result .end ≡ end → Ends (carry carriedRequest (formAt (wordAt f))) (lineOf (wordAt f)) (f .line-by .result .request) end
-form-ends f end e = rw (← e) (rw (f .before .line-word .ensures ∙ ap (lineWord (wordOf (wordAt f) .shown)) (f .before .before .run-of .ensures)) at (f .line-by .ensures))
+form-ends f end e = rw (← e) (rw (f .before .line-word .ensures ∙ ap (lineNamed (wordOf (wordAt f) .shown)) (f .before .before .run-of .ensures)) at (f .line-by .ensures))
 
 returns-2 : tie.Need-returns-2
 unfolding carriedRequest

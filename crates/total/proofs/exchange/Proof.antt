@@ -12,23 +12,8 @@ unfolding exchanged
 returns c =
     let k = c .before .before in
     let off = k .weighed-moment .ensures ∙ ap weighedMoment (k .before .weigh .ensures) in
-    omega (arith, off, c .before .beyond .ensures, c .if1 .taken)
-
-returns-2 : tie.Need-returns-2
-unfolding exchanged
-returns-2 c =
-    let k = c .before .before in
-    let off = k .weighed-moment .ensures ∙ ap weighedMoment (k .before .weigh .ensures) in
-    omega (arith, off, c .before .beyond .ensures, c .if1 .left)
+    omega (arith, off, c .before .beyond .ensures, c .capped-sum .ensures)
 
 pub exchange-spec : {M : Type 1} → statement M
 exchange-spec =
-    tie.close
-    (tie.spec
-    (λ c κs. search needs)
-    (λ c κs. search needs)
-    (λ c κs. search needs)
-    (λ c. search needs)
-    returns
-    (λ c. search needs)
-    returns-2)
+    tie.close (tie.spec (λ c κs. search needs) (λ c κs. search needs) (λ c κs. search needs) (λ c κs. search needs) returns)
