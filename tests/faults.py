@@ -315,8 +315,8 @@ def clear_keeps(field):
     after = "; ".join(f"{name} = {'c' if name == field else 'empty'} .{name}" for name in fields)
     return f"""
 file: crates/effects/src/lib.rt
-old: ghost use Rattle.effects.specs.Effect.{{weighingEffect, effectOf}};
-new: ghost use Rattle.effects.specs.Effect.{{weighingEffect, effectOf, clearedOf}};
+old: ghost use Rattle.effects.specs.Effect.{{effectOf}};
+new: ghost use Rattle.effects.specs.Effect.{{effectOf, clearedOf}};
 old: pub fn effect(c: Condition, r: Request, moment: u64) -> Condition
 new: fn cleared(c: Condition) -> Condition ensures {{ λ a. ⌜ a ≡ clearedOf c ⌝ }} {{ let kept = c.{field}; let mut e = condition::empty_condition(); e.{field} = kept; e }} pub fn effect(c: Condition, r: Request, moment: u64) -> Condition
 old:         Kind::ClearLine => condition::empty_condition(),
@@ -435,6 +435,7 @@ FAULTS = {
     "total_capped": Fault("total shows at most 1,000,000,000", [("", TOTAL_CAPPED)]),
     "clear_keeps_the_items": Fault("a clear keeps the weight items", [("", clear_keeps("sums"))]),
     "empty_with_items": Fault("a panel newly started or cleared has a tonne", [edit("condition", "theorem_empty_with_items")]),
+    "weighed_removes_the_items": Fault("weighed removes the weight items", [edit("operations", "theorem_weighed_removes_the_items")]),
     "load_removes_the_items": Fault("a load line, and weighed, remove the weight items", [edit("storing", "theorem_load_removes_the_items")]),
     "unweigh_keeps_the_products": Fault("an unweigh keeps the products", [edit("operations", "theorem_unweigh_keeps_the_products")]),
     "sum_of_400001": Fault("weight items together up to 400,001 tonnes", [edit("weights", "theorem_sum_of_400001")]),

@@ -4,19 +4,7 @@ use forms::Kind;
 use forms::Request;
 use record::Weighing;
 ghost use mathlib.Core.Path.{_≡_};
-ghost use Rattle.effects.specs.Effect.{weighingEffect, effectOf};
-
-// What a line of weights that was answered with 00 puts into the condition.
-fn weighing_effect(c: Condition, w: Weighing) -> Condition
-    ensures { λ a. ⌜ a ≡ weighingEffect c w ⌝ }
-{
-    let s = c.sums;
-    match w {
-        Weighing::Weight(i) => storing::with_sums(c, weights::with_item(s, i)),
-        Weighing::Weighed(fs) => storing::with_load(c, weights::weighed_load(s, fs)),
-        Weighing::Unweigh => storing::with_sums(c, record::no_sums()),
-    }
-}
+ghost use Rattle.effects.specs.Effect.{effectOf};
 
 // What a request that was answered with 00 puts into the condition, with the moment that the answer to a hold found. The condition is large, and
 // is copied wherever a function gives it: a line that is turned down never comes here.
@@ -26,6 +14,7 @@ pub fn effect(c: Condition, r: Request, moment: u64) -> Condition
     let kind = r.kind;
     let h = r.hold;
     let k = r.column;
+    let sums = c.sums;
     match kind {
         Kind::ShipLine(s) => storing::with_ship(c, s),
         Kind::ColumnLine => storing::with_column(c, k),
@@ -36,7 +25,11 @@ pub fn effect(c: Condition, r: Request, moment: u64) -> Condition
         Kind::ClearLine => condition::empty_condition(),
         Kind::ShowLine => c,
         Kind::TotalLine => c,
-        Kind::WeighingLine(w) => weighing_effect(c, w),
+        Kind::WeighingLine(w) => match w {
+            Weighing::Weight(i) => storing::with_sums(c, weights::with_item(sums, i)),
+            Weighing::Weighed(fs) => storing::with_load(c, weights::weighed_load(sums, fs)),
+            Weighing::Unweigh => storing::with_sums(c, record::no_sums()),
+        },
         Kind::NoShape => c,
     }
 }

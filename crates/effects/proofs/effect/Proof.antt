@@ -44,11 +44,25 @@ returns-9 c = rw (c .enum-told5 .given .1) refl
 
 returns-10 : tie.Need-returns-10
 unfolding effectOf
-returns-10 c = rw (c .before .before .kind5 .given .1) (c .weighing-effect .ensures)
+returns-10 c =
+    let d = c .before .before .before in
+    rw (d .before .before .before .kind5 .given .1, d .w .given .1) (rw (c .before .with-item .ensures) at (c .with-sums .ensures))
 
 returns-11 : tie.Need-returns-11
 unfolding effectOf
-returns-11 c = rw (c .enum-told6 .given .1) refl
+returns-11 c =
+    let d = c .before .before .before in
+    rw (d .before .before .before .kind5 .given .1, d .w2 .given .1) (rw (c .before .weighed-load .ensures) at (c .with-load2 .ensures))
+
+returns-12 : tie.Need-returns-12
+unfolding effectOf
+returns-12 c =
+    let d = c .before .before in
+    rw (d .before .before .before .kind5 .given .1, d .enum-told6 .given .1) (rw (c .before .no-sums .ensures) at (c .with-sums2 .ensures))
+
+returns-13 : tie.Need-returns-13
+unfolding effectOf
+returns-13 c = rw (c .enum-told7 .given .1) refl
 
 pub effect-spec : {M : Type 1} → statement M
 effect-spec =
@@ -71,6 +85,14 @@ effect-spec =
     (λ c. search needs)
     (λ c. search needs)
     (λ c. search needs)
+    (λ c. search needs)
+    (λ c κs. search needs)
+    (λ c κs. search needs)
+    (λ c. search needs)
+    (λ c κs. search needs)
+    (λ c κs. search needs)
+    (λ c. search needs)
+    (λ c κs. search needs)
     (λ c κs. search needs)
     (λ c. search needs)
     returns
@@ -83,4 +105,6 @@ effect-spec =
     returns-8
     returns-9
     returns-10
-    returns-11)
+    returns-11
+    returns-12
+    returns-13)
