@@ -4,7 +4,6 @@ use mathlib.Core.Bool.{Bool, true, false}
 use mathlib.Core.List.{List, [], _∷_}
 use Prim.Native.Nat.{ℕ}
 use lib.ListN.{take, drop}
-use borrow.Author.Tests.{ne-eqb}
 use Rattle.whole.specs.Lists.{all, within}
 use Rattle.whole.proofs.Lists.{and-true}
 use Rattle.text.specs.Token.{allowed, inRun, Token, opened, closed, run, startsRun, tokens, runLength}
@@ -14,6 +13,7 @@ use Rattle.text.proofs.Sorts.{not-in-run}
 use Rattle.line_codes.specs.Line.{Stand, before, inside, behind, wrong, further, walked, oneForm}
 use Rattle.line_codes.specs.Codes.{Allowed, opening, closing, space, ofRun}
 use Rattle.line_codes.proofs.Bytes.{in-run, may-stand}
+use Rattle.line_codes.proofs.Walks.{over-space, over-other, over-any, over-plain}
 
 -- over a run; over a token; along tokens
 abbrev pub overRun : Stand → Stand
@@ -31,18 +31,12 @@ unfoldable pub along : (most : ℕ) → Stand → List Token → Stand
 along most p [] = p
 along most p (t ∷ ts) = along most (overToken most p t) ts
 
--- a space changes nothing; every byte of a run is walked alike, and a second one changes nothing
-over-space : (most : ℕ) (p : Stand) → further most p 32 ≡ p
-over-space most before = refl
-over-space most (inside n) = refl
-over-space most behind = refl
-over-space most wrong = refl
-
+-- every byte of a run is walked alike, and a second one changes nothing
 over-run : (most : ℕ) (p : Stand) (b : ℕ) → inRun b ≡ true → further most p b ≡ overRun p
 unfolding within
-over-run most before b e = rw (ne-eqb b 32 (not-in-run b 32 e refl), ne-eqb b 40 (not-in-run b 40 e refl))
-over-run most (inside n) b e = rw (ne-eqb b 40 (not-in-run b 40 e refl), ne-eqb b 41 (not-in-run b 41 e refl))
-over-run most behind b e = rw (ne-eqb b 32 (not-in-run b 32 e refl))
+over-run most before b e = over-other most b (not-in-run b 40 e refl) (not-in-run b 32 e refl)
+over-run most (inside n) b e = over-plain most n b (not-in-run b 40 e refl) (not-in-run b 41 e refl)
+over-run most behind b e = over-any most b (not-in-run b 32 e refl)
 over-run most wrong b e = refl
 
 run-once : (p : Stand) → overRun (overRun p) ≡ overRun p

@@ -6,20 +6,20 @@ use Prim.Native.Nat.{ℕ, zero, suc, _+_, _-_, _≤_, _<_}
 use native.Mathlib.Omega.{arith}
 use lib.Dec.{eqb, ltb}
 use lib.ListN.{replicate}
-use borrow.Author.Tests.{ne-eqb, eqb-true, eqb-false, lt-ltb, le-ltb}
+use borrow.Author.Tests.{eqb-true, eqb-false, lt-ltb, le-ltb}
 use Rattle.line_codes.specs.Line.{before, inside, behind, wrong, outOf, walked, isBehind, oneForm}
 use Rattle.line_codes.specs.Codes.{Inner, none, byte, form as inner, Form, form, OneForm}
-use Rattle.line_codes.proofs.Walks.{walked-wrong}
+use Rattle.line_codes.proofs.Walks.{walked-wrong, over-plain, over-open}
 
 -- ---- one byte of the walk, with brackets open
 module _ (most k : ℕ) (l : List ℕ) where
   step-plain : (b : ℕ) → (b ≡ 40 → ⊥) → (b ≡ 41 → ⊥) → walked most (inside (suc k)) (b ∷ l) ≡ walked most (inside (suc k)) l
   unfolding walked
-  step-plain b p q = rw (ne-eqb b 40 p, ne-eqb b 41 q)
+  step-plain b p q = rw (over-plain most (suc k) b p q)
 
   step-open : suc k < most → walked most (inside (suc k)) (40 ∷ l) ≡ walked most (inside (suc (suc k))) l
   unfolding walked
-  step-open h = rw (lt-ltb (suc k) most h)
+  step-open h = rw (over-open most (suc k) h)
 
   step-shut : walked most (inside (suc k)) (41 ∷ l) ≡ walked most (outOf k) l
   unfolding walked

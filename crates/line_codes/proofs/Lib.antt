@@ -1,7 +1,6 @@
 pub mod Bytes
 pub mod Sounds
 pub mod Walks
-pub mod Closing
 pub mod Forms
 pub mod Decimals
 pub mod Words

@@ -1,22 +1,20 @@
--- Laws of a walk along a line: byte by byte, over spaces, and over a form.
+-- Laws of a walk along a line, byte by byte.
 use mathlib.Core.Path.{_≡_, refl, sym, _∙_, ap}
-use mathlib.Core.Bool.{Bool, true, false, cond}
+use mathlib.Core.Bool.{true, cond}
 use mathlib.Core.List.{List, [], _∷_}
 use Prim.Native.Nat.{ℕ, zero, suc, _+_, _-_, _≤_, _<_}
 use native.Mathlib.Omega.{arith}
-use lib.Dec.{eqb, ltb}
+use lib.Dec.{eqb, leb}
 use lib.ListN.{length, getD, drop}
-use borrow.Author.Tests.{ne-eqb, eqb-true, lt-ltb, le-ltb}
-use lib.Seq.{drop-drop}
-use Rattle.text.specs.Token.{space, opened, tokens}
-use Rattle.line_codes.specs.Line.{before, inside, behind, wrong, outOf, walked, isBehind, oneForm, deepest}
-use Rattle.text.specs.Places.{spaces}
-use Rattle.line_codes.specs.Places.{closeAt}
-use Rattle.line_codes.specs.declared.Closed.{Closed}
-use Rattle.line_codes.specs.declared.Closed.the-variants.{At, Nowhere}
-use Rattle.whole.proofs.Lists.{drop-next, drop-end}
-use Rattle.text.proofs.Parts.{tokens-opening, tokens-space}
-use Rattle.text.proofs.Scans.{scan-over, scan-stop}
+use borrow.Author.Tests.{ne-eqb, eqb-true, lt-ltb, le-ltb, lt-leb}
+use Rattle.line_codes.specs.declared.Part.{Part}
+use Rattle.line_codes.specs.declared.Part.the-variants.{Before, Inside, Behind}
+use Rattle.line_codes.specs.Line.{Stand, before, inside, behind, wrong, outOf, further, walked}
+use Rattle.whole.specs.Lists.{within}
+use Rattle.whole.proofs.Lists.{clash, drop-next, drop-end}
+use Rattle.text.specs.Token.{space, prefix}
+use Rattle.text.specs.Places.{spaces, ofClass}
+use Rattle.text.proofs.Scans.{scan-over}
 
 -- a walk that went wrong stays wrong
 pub walked-wrong : (most : ℕ) (l : List ℕ) → walked most wrong l ≡ wrong
@@ -24,100 +22,90 @@ unfolding walked
 walked-wrong most [] = refl
 walked-wrong most (b ∷ s) = walked-wrong most s
 
--- over the spaces before a form
-one-before : (most b : ℕ) (s : List ℕ) → eqb b space ≡ true → walked most before (b ∷ s) ≡ walked most before s
-unfolding walked
-one-before most b s e = rw e
+-- ---- one byte further
+pub over-space : (most : ℕ) (p : Stand) → further most p 32 ≡ p
+over-space most before = refl
+over-space most (inside n) = refl
+over-space most behind = refl
+over-space most wrong = refl
 
--- behind a form only spaces stand
-one-behind : (most b : ℕ) (s : List ℕ) → eqb b space ≡ true → isBehind (walked most behind (b ∷ s)) ≡ isBehind (walked most behind s)
-unfolding walked
-one-behind most b s e = rw e
+pub over-other : (most b : ℕ) → (b ≡ 40 → ⊥) → (b ≡ 32 → ⊥) → further most before b ≡ wrong
+over-other most b p q = rw (ne-eqb b 32 q, ne-eqb b 40 p)
 
-other-behind : (most b : ℕ) (s : List ℕ) → eqb b space ≡ false → isBehind (walked most behind (b ∷ s)) ≡ false
-unfolding walked
-other-behind most b s e = rw (e, walked-wrong most s)
+pub over-any : (most b : ℕ) → (b ≡ 32 → ⊥) → further most behind b ≡ wrong
+over-any most b q = rw (ne-eqb b 32 q)
 
-module _ (most : ℕ) (s : List ℕ) (q r : ℕ) (there : r ≡ q + spaces (drop q s)) where
-  to-there : isBehind (walked most behind (drop q s)) ≡ isBehind (walked most behind (drop r s))
-  to-there = scan-over (λ b. eqb b space) s q r there (λ l. isBehind (walked most behind l)) (one-behind most)
+module _ (most n : ℕ) where
+  pub over-plain : (b : ℕ) → (b ≡ 40 → ⊥) → (b ≡ 41 → ⊥) → further most (inside n) b ≡ inside n
+  over-plain b p q = rw (ne-eqb b 40 p, ne-eqb b 41 q)
 
-  pub ends-there : length s ≤ r → isBehind (walked most behind (drop q s)) ≡ true
+  pub over-open : n < most → further most (inside n) 40 ≡ inside (suc n)
+  over-open h = rw (lt-ltb n most h)
+
+  pub over-full : most ≤ n → further most (inside n) 40 ≡ wrong
+  over-full h = rw (le-ltb n most h)
+
+-- ---- the walk from a place of the line
+module _ (most : ℕ) (s : List ℕ) (i : ℕ) (p : Stand) where
+  pub walk-end : length s ≤ i → walked most p (drop i s) ≡ p
   unfolding walked
-  ends-there p = to-there ∙ rw (drop-end s r 0 p)
+  walk-end h = rw (drop-end s i 0 h)
 
-  pub ends-short : r < length s → isBehind (walked most behind (drop q s)) ≡ false
-  ends-short p =
-      to-there
-      ∙ rw (drop-next s r 0 p) (other-behind most (getD s r 0) (drop (r + 1) s) (scan-stop (λ b. eqb b space) s q r there p))
-
--- over a form: what remains is behind its closing bracket
-abbrev pub afterClose : ℕ → List ℕ → Closed → Bool
-afterClose most w (At q) = isBehind (walked most behind (drop q w))
-afterClose most w Nowhere = false
-
-module _ (w : List ℕ) (most : ℕ) where
-  abbrev Closes : List ℕ → ℕ → ℕ → ℕ → Type 0
-  Closes l p left k = left + suc k ≡ most → isBehind (walked most (inside (suc k)) l) ≡ afterClose most w (closeAt l p left k)
-
-  shuts : (s : List ℕ) (p left k : ℕ) → s ≡ drop (p + 1) w → ((left k : ℕ) → Closes s (p + 1) left k) → left + suc k ≡ most →
-      isBehind (walked most (outOf k) s) ≡ afterClose most w (cond (eqb k 0) (At (p + 1)) (closeAt s (p + 1) (left + 1) (k - 1)))
-  shuts s p left zero f ih m = ap (λ l. isBehind (walked most behind l)) f
-  shuts s p left (suc k) f ih m =
-      let e : suc k - 1 ≡ k = omega arith in
-      rw (ne-eqb (suc k) 0 (omega arith), e) (ih (left + 1) k (omega arith))
-
-  opens : (s : List ℕ) (p left k : ℕ) → ((left k : ℕ) → Closes s (p + 1) left k) → left + suc k ≡ most →
-      isBehind (walked most (cond (ltb (suc k) most) (inside (suc (suc k))) wrong) s) ≡ afterClose most w (cond (eqb left 0) Nowhere (closeAt s (p + 1) (left - 1) (k + 1)))
-  opens s p zero k ih m = rw (le-ltb (suc k) most (omega arith), walked-wrong most s)
-  opens s p (suc left) k ih m =
-      let e : k + 1 ≡ suc k = omega arith in
-      let f : suc left - 1 ≡ left = omega arith in
-      rw (lt-ltb (suc k) most (omega arith), ne-eqb (suc left) 0 (omega arith), e, f) (ih left (suc k) (omega arith))
-
-  one-byte : (s : List ℕ) (p left k b : ℕ) (x y : Bool) → eqb b 41 ≡ x → eqb b 40 ≡ y → s ≡ drop (p + 1) w → ((left k : ℕ) → Closes s (p + 1) left k) → left + suc k ≡ most →
-      isBehind (walked most (cond y (cond (ltb (suc k) most) (inside (suc (suc k))) wrong) (cond x (outOf k) (inside (suc k)))) s)
-      ≡ afterClose most w (cond x (cond (eqb k 0) (At (p + 1)) (closeAt s (p + 1) (left + 1) (k - 1))) (cond y (cond (eqb left 0) Nowhere (closeAt s (p + 1) (left - 1) (k + 1))) (closeAt s (p + 1) left k)))
-  one-byte s p left k b true true ex ey f ih m = absurd (omega (arith, eqb-true b 41 ex, eqb-true b 40 ey))
-  one-byte s p left k b true false ex ey f ih m = shuts s p left k f ih m
-  one-byte s p left k b false true ex ey f ih m = opens s p left k ih m
-  one-byte s p left k b false false ex ey f ih m = ih left k m
-
-  pub walk-close : (l : List ℕ) (p left k : ℕ) → l ≡ drop p w → Closes l p left k
-  unfolding walked closeAt
-  walk-close [] p left k e m = refl
-  walk-close (b ∷ s) p left k e m =
-      let f = ap (drop 1) e ∙ drop-drop 1 p w in
-      let d : suc k - 1 ≡ k = omega arith in
-      rw d (one-byte s p left k b (eqb b 41) (eqb b 40) refl refl f (λ left k. walk-close s (p + 1) left k f) m)
-
--- a form starts with its bracket
-neither : (most b : ℕ) (s : List ℕ) → eqb b space ≡ false → (b ≡ 40 → ⊥) → isBehind (walked most before (b ∷ s)) ≡ false
-unfolding walked
-neither most b s e q = rw (e, ne-eqb b 40 q, walked-wrong most s)
-
--- a line: its spaces, its opening bracket, its form, and spaces to its end
-module _ (s : List ℕ) (i : ℕ) (there : i ≡ 0 + spaces (drop 0 s)) where
-  from-there : (most : ℕ) → oneForm most s ≡ isBehind (walked most before (drop i s))
-  from-there most = ap isBehind (scan-over (λ b. eqb b space) s 0 i there (walked most before) (one-before most))
-
-  pub no-form : (most : ℕ) → length s ≤ i → oneForm most s ≡ false
+  pub walk-on : (q : Stand) → i < length s → further most p (getD s i 0) ≡ q → walked most p (drop i s) ≡ walked most q (drop (i + 1) s)
   unfolding walked
-  no-form most p = from-there most ∙ rw (drop-end s i 0 p)
+  walk-on q h e = ap (walked most p) (drop-next s i 0 h) ∙ ap (λ r. walked most r (drop (i + 1) s)) e
 
-  module _ (p : i < length s) where
-    pub not-opened : (most : ℕ) → (getD s i 0 ≡ 40 → ⊥) → oneForm most s ≡ false
-    not-opened most a = from-there most ∙ rw (drop-next s i 0 p) (neither most (getD s i 0) (drop (i + 1) s) (scan-stop (λ b. eqb b space) s 0 i there p) a)
+  pub walk-spaces : {j : ℕ} → j ≡ i + spaces (drop i s) → walked most p (drop i s) ≡ walked most p (drop j s)
+  unfolding walked
+  walk-spaces there = scan-over (λ b. eqb b space) s i _ there (walked most p) (λ b t e. rw (eqb-true b space e, over-space most p))
 
-    module _ (a : getD s i 0 ≡ 40) where
-      tokens-there : tokens s ≡ opened ∷ tokens (drop (i + 1) s)
-      tokens-there =
-          scan-over (λ b. eqb b space) s 0 i there tokens (λ b t e. rw (eqb-true b space e) (tokens-space t))
-          ∙ rw (drop-next s i 0 p, a) (tokens-opening (drop (i + 1) s))
+-- inside a form, over bytes that are no brackets: those of runs, spaces and others
+no-bracket : (b : ℕ) → ofClass 13 b ≡ true → (b ≡ 40 → ⊥) × (b ≡ 41 → ⊥)
+unfolding ofClass within
+no-bracket b e = (λ f. clash (rw f at e), λ f. clash (rw f at e))
 
-      form-from : (left : ℕ) → oneForm (left + 1) s ≡ afterClose (left + 1) s (closeAt (drop (i + 1) s) (i + 1) left 0)
-      unfolding walked
-      form-from left = from-there (left + 1) ∙ rw (drop-next s i 0 p, a) (walk-close s (left + 1) (drop (i + 1) s) (i + 1) left 0 refl refl)
+pub walk-plain : (most : ℕ) (s : List ℕ) (i n : ℕ) {j : ℕ} → j ≡ i + prefix (ofClass 13) (drop i s) → walked most (inside n) (drop i s) ≡ walked most (inside n) (drop j s)
+unfolding walked
+walk-plain most s i n there =
+    scan-over (ofClass 13) s i _ there (walked most (inside n))
+    (λ b t e. let f = no-bracket b e in rw (over-plain most n b (f .0) (f .1)))
 
-      pub form-by : (left : ℕ) → left + 1 ≡ deepest (opened ∷ tokens (drop (i + 1) s)) → oneForm (deepest (tokens s)) s ≡ afterClose (left + 1) s (closeAt (drop (i + 1) s) (i + 1) left 0)
-      form-by left e = ap (λ m. oneForm m s) (ap deepest tokens-there ∙ sym e) ∙ form-from left
+-- ---- the same of the part that the loop carries, one law for each way through its turn
+abbrev pub standOf : Part → Stand
+standOf Before = before
+standOf (Inside n) = inside n
+standOf Behind = behind
+
+out-of : (n : ℕ) → standOf (cond (leb n 1) Behind (Inside (n - 1))) ≡ outOf (n - 1)
+out-of zero = refl
+out-of (suc zero) = refl
+out-of (suc (suc n)) =
+    let e : suc (suc n) - 1 ≡ suc n = omega arith in
+    rw (lt-leb (suc (suc n)) 1 (omega arith), e)
+
+module _ (most b : ℕ) where
+  abbrev Leads : Part → Stand → Type 0
+  Leads part p = further most (standOf part) b ≡ p
+
+  pub enters : {part : Part} → part ≡ Before → b ≡ 40 → Leads part (inside 1)
+  enters e f = rw (e, f)
+
+  pub strays : {part : Part} → part ≡ Before → (b ≡ 40 → ⊥) → (b ≡ 32 → ⊥) → Leads part wrong
+  strays e f g = rw e (over-other most b f g)
+
+  pub deepens : {part : Part} {n : ℕ} → part ≡ Inside n → b ≡ 40 → n < most → Leads part (inside (n + 1))
+  deepens {n = n} e f h =
+      let k : n + 1 ≡ suc n = omega arith in
+      rw (e, f, k) (over-open most n h)
+
+  pub too-deep : {part : Part} {n : ℕ} → part ≡ Inside n → b ≡ 40 → most ≤ n → Leads part wrong
+  too-deep {n = n} e f h = rw (e, f) (over-full most n h)
+
+  pub closes : {part r : Part} {n : ℕ} → part ≡ Inside n → b ≡ 41 → r ≡ cond (leb n 1) Behind (Inside (n - 1)) → Leads part (standOf r)
+  closes {n = n} e f r = rw (e, f, r) (sym (out-of n))
+
+  pub stays : {part : Part} {n : ℕ} → part ≡ Inside n → (b ≡ 40 → ⊥) → (b ≡ 41 → ⊥) → Leads part (inside n)
+  stays {n = n} e f h = rw e (over-plain most n b f h)
+
+  pub goes-on : {part : Part} → part ≡ Behind → (b ≡ 32 → ⊥) → Leads part wrong
+  goes-on e f = rw e (over-any most b f)

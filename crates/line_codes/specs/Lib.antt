@@ -1,4 +1,3 @@
 pub mod Line
-pub mod Places
 pub mod Codes
 pub mod Alike

@@ -6,20 +6,22 @@ use text::OTHER;
 use text::RUN;
 use text::SPACE;
 ghost use mathlib.Core.Path.{_≡_};
+ghost use mathlib.Core.Bool.{cond};
 ghost use mathlib.Core.List.{_∷_};
-ghost use Prim.Native.Nat.{_+_, _≤_};
+ghost use Prim.Native.Nat.{_-_, _≤_};
+ghost use lib.Dec.{leb};
 ghost use lib.ListN.{length, drop};
 ghost use Rattle.whole.specs.Lists.{all};
 ghost use Rattle.text.specs.Token.{allowed, opened, tokens};
+ghost use Rattle.line_codes.specs.declared.Part.the-variants.{Inside, Behind};
 ghost use Rattle.line_codes.specs.Line.{tested, deepest, oneForm, numberIfDigit, soundToken, readingOf, readingCode};
-ghost use Rattle.line_codes.specs.Places.{closeAt};
 
-// How long a line may be, in bytes; how much deeper than its outermost brackets forms may be nested, and behind the word `show`.
+// How long a line may be, in bytes; how deep its form may be nested, and behind the word `show`.
 const LONGEST: usize = 2000;
 
-const DEEPER: usize = 3;
+const DEEPEST: usize = 4;
 
-const DEEPER_IN_SHOW: usize = 4;
+const DEEPEST_IN_SHOW: usize = 5;
 
 // What the tests of a whole line find, in their order.
 pub enum Reading {
@@ -36,10 +38,11 @@ enum Test {
     Failed,
 }
 
-// The place behind a closing bracket.
-enum Closed {
-    At(usize),
-    Nowhere,
+// Which part of a line a place is in: before its form, inside it with this many brackets open, behind it.
+enum Part {
+    Before,
+    Inside(usize),
+    Behind,
 }
 
 // 11: whether every byte may stand in a line.
@@ -52,69 +55,75 @@ fn all_allowed(s: &[u8]) -> Test
     Test::Passed
 }
 
-// The place behind the form whose opening bracket stands just before `at`, with forms inside it nested at most `left` deeper.
-fn close_at(s: &[u8], at: usize, left: usize) -> Closed
+// How deep a form may be nested that opens just before `at`: one deeper where its first word is `show`.
+fn deepest_at(s: &[u8], at: usize) -> usize
     requires { ⌜ at ≤ length (now s) ⌝ }
-    ensures { λ r. ⌜ r ≡ closeAt (drop at (now (s .entry))) at left 0 ⌝ }
-{
-    let mut i = at;
-    while i < s.len() {
-        let b = s[i];
-        if b == b')' {
-            return Closed::At(i + 1);
-        }
-        if b == b'(' {
-            if left == 0 {
-                return Closed::Nowhere;
-            }
-            let Closed::At(j) = close_at(s, i + 1, left - 1) else {
-                return Closed::Nowhere;
-            };
-            i = j;
-        } else {
-            i += 1;
-        }
-    }
-    Closed::Nowhere
-}
-
-// How much deeper than the outermost brackets, which open just before `at`, forms may be nested: one more behind the word `show`.
-fn deeper_at(s: &[u8], at: usize) -> usize
-    requires { ⌜ at ≤ length (now s) ⌝ }
-    ensures { λ r. ⌜ r + 1 ≡ deepest (opened ∷ tokens (drop at (now (s .entry)))) ⌝ }
+    ensures { λ r. ⌜ r ≡ deepest (opened ∷ tokens (drop at (now (s .entry)))) ⌝ }
 {
     let t = text::next_at(s, at);
     match t {
-        Next::Open(_) => DEEPER,
-        Next::Close(_) => DEEPER,
+        Next::Open(_) => DEEPEST,
+        Next::Close(_) => DEEPEST,
         Next::Run(a, q) => {
             if text::same(text::run_of(s, a, q), b"show") {
-                return DEEPER_IN_SHOW;
+                return DEEPEST_IN_SHOW;
             }
-            DEEPER
+            DEEPEST
         }
-        Next::End => DEEPER,
+        Next::End => DEEPEST,
     }
 }
 
-// 12: whether a line is one closed form, with only spaces outside it, no deeper than its first word lets.
+// The part behind a closing bracket, where `depth` brackets were open before it.
+fn out_of(depth: usize) -> Part
+    ensures { λ r. ⌜ r ≡ cond (leb depth 1) Behind (Inside (depth - 1)) ⌝ }
+{
+    if depth <= 1 {
+        return Part::Behind;
+    }
+    Part::Inside(depth - 1)
+}
+
+// 12: whether a line is one closed form, with only spaces outside it, no deeper than its first word lets. A turn takes one bracket, or the
+// bytes up to the next; spaces are passed over.
 fn one_form(s: &[u8]) -> Test
     ensures { λ r. ⌜ r ≡ tested (oneForm (deepest (tokens (now (s .entry)))) (now (s .entry))) ⌝ }
 {
-    let at = text::scan(s, 0, SPACE);
-    if s.len() <= at {
-        return Test::Failed;
+    let mut part = Part::Before;
+    let mut most = DEEPEST;
+    let mut i = text::scan(s, 0, SPACE);
+    while i < s.len() {
+        let b = s[i];
+        i += 1;
+        match part {
+            Part::Before => {
+                if b != b'(' {
+                    return Test::Failed;
+                }
+                part = Part::Inside(1);
+                most = deepest_at(s, i);
+            }
+            Part::Inside(depth) => {
+                if b == b'(' {
+                    if most <= depth {
+                        return Test::Failed;
+                    }
+                    part = Part::Inside(depth + 1);
+                } else if b == b')' {
+                    part = out_of(depth);
+                } else {
+                    i = text::scan(s, i, RUN | SPACE | OTHER);
+                }
+            }
+            Part::Behind => return Test::Failed,
+        }
+        i = text::scan(s, i, SPACE);
     }
-    if s[at] != b'(' {
-        return Test::Failed;
+    match part {
+        Part::Before => Test::Failed,
+        Part::Inside(_) => Test::Failed,
+        Part::Behind => Test::Passed,
     }
-    let Closed::At(j) = close_at(s, at + 1, deeper_at(s, at + 1)) else {
-        return Test::Failed;
-    };
-    if text::scan(s, j, SPACE) != s.len() {
-        return Test::Failed;
-    }
-    Test::Passed
 }
 
 // 13: whether a run that starts with a digit is a number.

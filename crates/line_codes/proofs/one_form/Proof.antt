@@ -1,76 +1,210 @@
 -- `one_form`: 12: whether a line is one closed form, with only spaces outside it, no deeper than its first word lets.
-use mathlib.Core.Path.{_≡_, sym, _∙_, ap}
-use mathlib.Core.List.{List}
-use Prim.Native.Nat.{ℕ, _+_}
-use native.Mathlib.Omega.{arith}
-use Rattle.text.specs.Token.{tokens}
-use Rattle.line_codes.specs.declared.Closed.{Closed}
-use Rattle.line_codes.specs.declared.Closed.the-variants.{Nowhere}
-use Rattle.line_codes.specs.Line.{tested, deepest, oneForm}
-use Rattle.line_codes.proofs.Walks.{no-form, not-opened, form-by, afterClose, ends-there, ends-short}
-use Rattle.text.proofs.Scans.{stands, asked-spaces}
-use Rattle.line_codes.proofs.Closing.{placed}
 use borrow.Author.Needs.{needs}
+use mathlib.Core.Path.{_≡_, refl, sym, _∙_, ap, subst}
+use mathlib.Core.Bool.{Bool, true, false, cond}
+use mathlib.Core.List.{List, _∷_}
+use mathlib.Core.Logic.{⊎-elim}
+use native.Mathlib.Omega.{arith}
+use Prim.Native.Nat.{ℕ, _+_, _-_, _≤_, _<_}
+use lib.Dec.{eqb, leb}
+use lib.ListN.{length, getD, drop}
+use borrow.Author.Tests.{eqb-true, eqb-false}
+use Rattle.whole.proofs.Lists.{drop-next}
+use Rattle.text.specs.Token.{space, prefix, Token, opened, tokens}
+use Rattle.text.specs.Places.{spaces, ofClass}
+use Rattle.text.proofs.Parts.{tokens-opening, tokens-space}
+use Rattle.text.proofs.Scans.{stands, asked-spaces, scan-over, scan-stop}
+use Rattle.line_codes.specs.declared.Part.{Part}
+use Rattle.line_codes.specs.declared.Part.the-variants.{Before, Inside, Behind}
+use Rattle.line_codes.specs.declared.Test.the-variants.{Failed}
+use Rattle.line_codes.specs.Line.{Stand, before, inside, wrong, further, walked, isBehind, tested, isShow, deepest, oneForm}
+use Rattle.line_codes.proofs.Walks.{walked-wrong, walk-end, walk-on, walk-spaces, walk-plain, standOf, enters, strays, deepens, too-deep, closes, stays, goes-on}
 use Rattle.line_codes.proofs.one_form.Statement.{statement}
 use Rattle.line_codes.proofs.one_form.Tie as tie
 
-returns : tie.Need-returns
+-- how deep the form may be: before it opens what is left of the line still tells, then `most` is that
+abbrev Known : (s : List ℕ) (most i : ℕ) → Part → Type 0
+Known s most i Before = tokens (drop i s) ≡ tokens s
+Known s most i (Inside n) = most ≡ deepest (tokens s)
+Known s most i Behind = most ≡ deepest (tokens s)
+
+known-out : (s : List ℕ) (i n : ℕ) {r : Part} {most : ℕ} → r ≡ cond (leb n 1) Behind (Inside (n - 1)) → most ≡ deepest (tokens s) → Known s most i r
+known-out s i n {most = most} e k = rw e (by (leb n 1))
+  where
+    by : (x : Bool) → Known s most i (cond x Behind (Inside (n - 1)))
+    by true = k
+    by false = k
+
+-- what is left of the line leads from the part to the same end as all of it
+record Led (s : List ℕ) (part : Part) (most i : ℕ) : Type 0 where
+  within : i ≤ length s
+  walk : walked (deepest (tokens s)) (standOf part) (drop i s) ≡ walked (deepest (tokens s)) before s
+  deep : Known s most i part
+
+-- and begins with no space
+record Here (s : List ℕ) (part : Part) (most i : ℕ) : Type 0 where
+  led : Led s part most i
+  noSpace : i < length s → getD s i 0 ≡ space → ⊥
+
+abbrev Inv-loop : tie.InvT-loop
+Inv-loop s part₀ most₀ i₀ part most i = Here s part most i
+
+abbrev μ-loop : tie.MeasureT-loop
+μ-loop s part₀ most₀ i₀ part most i = length s - i
+
+-- ---- spaces passed over
+module _ (s : List ℕ) (i : ℕ) {j : ℕ} (there : j ≡ i + prefix (ofClass 4) (drop i s)) where
+  there-spaces : j ≡ i + spaces (drop i s)
+  there-spaces = stands asked-spaces s i there
+
+  still : (most : ℕ) (part : Part) → Known s most i part → Known s most j part
+  still most Before e = sym (scan-over (λ b. eqb b space) s i j there-spaces tokens (λ b t f. rw (eqb-true b space f) (tokens-space t))) ∙ e
+  still most (Inside n) e = e
+  still most Behind e = e
+
+  passes : (part : Part) (most : ℕ) → j ≤ length s → Led s part most i → Here s part most j
+  passes part most h l =
+      record {
+        led = record { within = h; walk = sym (walk-spaces _ s i (standOf part) there-spaces) ∙ l .walk; deep = still most part (l .deep) };
+        noSpace = λ g. eqb-false _ space (scan-stop (λ b. eqb b space) s i j there-spaces g);
+      }
+
+loop-holds : tie.Need-loop-holds Inv-loop μ-loop
+loop-holds c =
+    passes _ 0 (c .scan .ensures .0) Before _ (c .scan .ensures .1) record { within = omega arith; walk = refl; deep = refl }
+
+-- ---- one turn of the loop, from the byte that it reads on
+module _ (a : tie.After-shared-slice-known2 Inv-loop μ-loop) where
+  abbrev line : List ℕ
+  line = a .before .before .before .before .before .args .s .now
+
+  abbrev place : ℕ
+  place = a .before .before .loop .i
+
+  abbrev Leads : Stand → Type 0
+  Leads p = further (deepest (tokens line)) (standOf (a .before .before .loop .part)) (getD line place 0) ≡ p
+
+  turns : (p : Stand) → Leads p → walked (deepest (tokens line)) p (drop (place + 1) line) ≡ walked (deepest (tokens line)) before line
+  turns p e = sym (walk-on _ line place _ p (a .before .loop-test .taken) e) ∙ a .before .before .loop .inv .led .walk
+
+  fails : Leads wrong → Failed ≡ tested (oneForm (deepest (tokens line)) line)
+  fails e = rw (← turns wrong e, walked-wrong (deepest (tokens line)) (drop (place + 1) line))
+
+  no-space : getD line place 0 ≡ space → ⊥
+  no-space = a .before .before .loop .inv .noSpace (a .before .loop-test .taken)
+
+  known : (q : Part) → a .before .before .loop .part ≡ q → Known line (a .before .before .loop .most) place q
+  known q e = subst (Known line (a .before .before .loop .most) place) e (a .before .before .loop .inv .led .deep)
+
+  -- the form opens: its first word tells how deep it may be
+  opens : {m : ℕ} → a .before .before .loop .part ≡ Before → getD line place 0 ≡ 40 → m ≡ deepest (opened ∷ tokens (drop (place + 1) line)) → m ≡ deepest (tokens line)
+  opens e f g =
+      let t : tokens (drop place line) ≡ opened ∷ tokens (drop (place + 1) line) = rw (drop-next line place 0 (a .before .loop-test .taken), f) (tokens-opening (drop (place + 1) line)) in
+      g ∙ ap deepest (sym t ∙ known Before e)
+
+  one : (q : Part) → Leads (standOf q) → {part : Part} {most i : ℕ} → part ≡ q → Known line most (place + 1) q → i ≡ place + 1 → (place < i) × Led line part most i
+  one q e f k g = rw (f, g) (omega arith, record { within = omega (arith, a .before .loop-test .taken); walk = turns (standOf q) e; deep = k })
+
+  -- over bytes that are no brackets
+  plain : {n j : ℕ} → Leads (inside n) → j ≡ place + 1 + prefix (ofClass 13) (drop (place + 1) line) → j ≤ length line → {part : Part} {most i : ℕ} → part ≡ Inside n → most ≡ deepest (tokens line) → i ≡ j → (place < i) × Led line part most i
+  plain {n = n} e there h f k g =
+      rw (f, g) (omega arith, record { within = h; walk = sym (walk-plain _ line (place + 1) n there) ∙ turns (inside n) e; deep = k })
+
+returns : tie.Need-returns Inv-loop μ-loop
 returns c =
-    let s = c .before .before .before .args .s .now in
-    ap tested (sym (no-form s _ (stands asked-spaces s 0 (c .before .scan .ensures .0)) _ (c .if1 .taken)))
-
-returns-2 : tie.Need-returns-2
-returns-2 c =
-    let s = c .before .before .before .before .before .args .s .now in
-    ap tested (sym (not-opened s _ (stands asked-spaces s 0 (c .before .before .before .scan .ensures .0)) (search needs) _ (c .if2 .taken)))
-
--- a form that was opened is closed at this place or nowhere: that leaves what stands behind it
-abbrev lineOf : tie.After-close-at → List ℕ
-lineOf a = a .before .before .before .before .before .before .before .args .s .now
-
-closed-at : (a : tie.After-close-at) (p : Closed) → a .close-at .result ≡ p → oneForm (deepest (tokens (lineOf a))) (lineOf a) ≡ afterClose (a .before .deeper-at .result + 1) (lineOf a) p
-closed-at a p e =
-    let k = a .before .before in
-    let s = lineOf a in
-    form-by s _ (stands asked-spaces s 0 (k .before .before .before .scan .ensures .0)) (search needs) (k .if2 .left) _ (a .before .deeper-at .ensures)
-    ∙ ap (afterClose _ s) (sym (a .close-at .ensures) ∙ e)
-
-returns-3 : tie.Need-returns-3
-returns-3 c = ap tested (sym (closed-at (c .before .before) Nowhere (c .enum-told .given .1)))
-
-scan-requires-2 : tie.Need-scan-requires-2
-scan-requires-2 c κs =
     let a = c .before .before .before in
-    let r = sym (a .close-at .ensures) ∙ c .before .j .given .1 in
-    placed (lineOf a) (a .before .before .before .before .before .scan .result) _ _ (search needs) r .1
+    fails a (strays _ _ (c .before .enum-told .given .1) (c .if1 .taken) (no-space a))
 
-returns-4 : tie.Need-returns-4
-returns-4 c =
-    let j = c .before .before .before in
-    let s = lineOf (j .before .before) in
-    ap tested (sym (closed-at (j .before .before) _ (j .j .given .1) ∙ ends-short _ s _ _ (stands asked-spaces s _ (c .before .scan2 .ensures .0)) (omega arith)))
+returns-2 : tie.Need-returns-2 Inv-loop μ-loop
+returns-2 c =
+    let k = c .before .before .before in
+    let a = k .before .before in
+    fails a (too-deep _ _ (k .part .given .1) (c .before .if2 .taken) (omega (arith, known a (Inside _) (k .part .given .1), c .if3 .taken)))
 
-returns-5 : tie.Need-returns-5
-returns-5 c =
-    let j = c .before .before .before in
-    let s = lineOf (j .before .before) in
-    ap tested (sym (closed-at (j .before .before) _ (j .j .given .1) ∙ ends-there _ s _ _ (stands asked-spaces s _ (c .before .scan2 .ensures .0)) (omega arith)))
+-- a count of so many brackets fits
+cond-le : (x : Bool) {a b n : ℕ} → a ≤ n → b ≤ n → cond x a b ≤ n
+cond-le true p q = p
+cond-le false p q = q
+
+deepest-fits : (ts : List Token) → deepest ts ≤ 100
+deepest-fits ts = cond-le (isShow ts) (omega arith) (omega arith)
+
+add-t14 : tie.Need-add-t14 Inv-loop μ-loop
+add-t14 c =
+    let k = c .before .before .before in
+    let d = known (k .before .before) (Inside _) (k .part .given .1) in
+    let m = deepest-fits (tokens (line (k .before .before))) in
+    record { fits = omega (arith, d, m, c .if3 .left) }
+
+returns-3 : tie.Need-returns-3 Inv-loop μ-loop
+returns-3 c = fails (c .before .before) (goes-on _ _ (c .enum-told2 .given .1) (no-space (c .before .before)))
+
+arrives : (c : tie.At-match-came Inv-loop μ-loop) → (place (c .before) < c .match .i) × Led (line (c .before)) (c .match .part) (c .match .most) (c .match .i)
+arrives c =
+    let a = c .before in
+    ⊎-elim (λ w. one a (Inside 1) (enters _ _ (w .1 .given .1) (w .2 .left)) (w .4) (w .5 ∙ opens a (w .1 .given .1) (w .2 .left) (w .3 .ensures)) (w .6))
+    (⊎-elim
+    (λ w.
+    let d = known a (Inside _) (w .1 .given .1) in
+    one a (Inside _) (deepens _ _ (w .1 .given .1) (w .3 .taken) (omega (arith, d, w .4 .left))) (w .5) (w .6 ∙ d) (w .7))
+    (⊎-elim
+    (λ w.
+    let e = w .1 .given .1 in
+    one a (w .5 .result) (closes _ _ e (w .4 .taken) (w .5 .ensures)) (w .6) (known-out (line a) (place a + 1) (w .1 .given .0 .0) (w .5 .ensures) (w .7 ∙ known a (Inside _) e)) (w .8))
+    (λ w.
+    let e = w .1 .given .1 in
+    plain a (stays _ _ e (w .3 .left) (w .4 .left)) (w .5 .ensures .0) (w .5 .ensures .1) (w .6) (w .7 ∙ known a (Inside _) e) (w .8))))
+    (c .match .came)
+
+scan-requires-3 : tie.Need-scan-requires-3 Inv-loop μ-loop
+scan-requires-3 c κs = arrives c .1 .within
+
+loop-less : tie.Need-loop-less Inv-loop μ-loop
+loop-less c = omega (arith, arrives (c .before) .0, arrives (c .before) .1 .within, c .scan3 .ensures .0)
+
+loop-again : tie.Need-loop-again Inv-loop μ-loop
+loop-again c = passes _ _ (c .scan3 .ensures .0) _ _ (c .scan3 .ensures .1) (arrives (c .before) .1)
+
+-- ---- where the line ends
+ends : {s : List ℕ} {part : Part} {most i : ℕ} (q : Part) → length s ≤ i → Led s part most i → part ≡ q → tested (isBehind (standOf q)) ≡ tested (oneForm (deepest (tokens s)) s)
+ends {s = s} {part = part} {i = i} q h l f =
+    let w = sym (l .walk) ∙ walk-end (deepest (tokens s)) s i (standOf part) h ∙ ap standOf f in rw w
+
+returns-4 : tie.Need-returns-4 Inv-loop μ-loop
+returns-4 c = ends Before (c .before .before .loop-test .left) (c .before .before .before .loop .inv .led) (c .enum-told3 .given .1)
+
+returns-5 : tie.Need-returns-5 Inv-loop μ-loop
+returns-5 c = ends (Inside _) (c .before .before .loop-test .left) (c .before .before .before .loop .inv .led) (c .enum-told4 .given .1)
+
+returns-6 : tie.Need-returns-6 Inv-loop μ-loop
+returns-6 c = ends Behind (c .before .before .loop-test .left) (c .before .before .before .loop .inv .led) (c .enum-told5 .given .1)
 
 pub one-form-spec : {M : Type 1} → statement M
 one-form-spec =
     tie.close
     (tie.spec
+    Inv-loop
+    μ-loop
     (λ c κs. search needs)
+    loop-holds
+    (λ c. search needs)
+    (λ c. search needs)
+    (λ c. search needs)
     returns
+    (λ c κs. search needs)
     (λ c. search needs)
     returns-2
-    (λ c. search needs)
-    (λ c. search needs)
+    add-t14
     (λ c κs. search needs)
     (λ c κs. search needs)
-    (λ c. search needs)
     (λ c. search needs)
     returns-3
-    scan-requires-2
+    scan-requires-3
+    loop-less
+    loop-again
+    (λ c. search needs)
+    (λ c. search needs)
+    (λ c. search needs)
     returns-4
-    returns-5)
+    returns-5
+    returns-6)
