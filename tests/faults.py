@@ -8,6 +8,15 @@ import support
 # What is wrong, and the replacements: (folder, text) pairs, in the form of the must-fail edits.
 Fault = namedtuple("Fault", "words edits")
 
+SIX_DEEP_BEHIND_SHOW = """
+file: crates/line_codes/src/lib.rt
+old: const DEEPEST_IN_SHOW: usize = 5;
+new: const DEEPEST_IN_SHOW: usize = 6;
+file: crates/line_codes/specs/Line.antt
+old: deepest ts = cond (isShow ts) 5 4
+new: deepest ts = cond (isShow ts) 6 4
+"""
+
 DIST_AND_GIRDER = """
 file: crates/parts/src/lib.rt
 old:             dist: v[1],
@@ -413,6 +422,8 @@ FAULTS = {
     "room_128": Fault("15 below 128 bytes", [("", ROOM_128)]),
     "show_room_2200": Fault("16 below 2,200 bytes", [("", SHOW_ROOM_2200)]),
     "five_deep_behind_ship": Fault("five deep behind `ship`, four behind `show`", [edit("line_codes", "theorem_five_deep_behind_another_word")]),
+    "six_deep_behind_show": Fault("forms nested six deep are taken behind `show`", [("", SIX_DEEP_BEHIND_SHOW)]),
+    "unclosed_form": Fault("a form that is not closed is taken", [edit("line_codes", "theorem_unclosed_form")]),
     "space_behind_opening": Fault("a form spelled with a space behind each opening bracket", [edit("spelling", "theorem_space_behind_opening")]),
     "two_spaces": Fault("a form spelled with two spaces between items", [edit("spelling", "theorem_two_spaces")]),
     "full_at_once": Fault("23 at once, from the first column on", [("", FULL_AT_ONCE)]),
