@@ -35,7 +35,7 @@ along most p (t ∷ ts) = along most (overToken most p t) ts
 over-run : (most : ℕ) (p : Stand) (b : ℕ) → inRun b ≡ true → further most p b ≡ overRun p
 unfolding within
 over-run most before b e = over-other most b (not-in-run b 40 e refl) (not-in-run b 32 e refl)
-over-run most (inside n) b e = over-plain most n b (not-in-run b 40 e refl) (not-in-run b 41 e refl)
+over-run most (inside n) b e = over-plain most b n (not-in-run b 40 e refl) (not-in-run b 41 e refl)
 over-run most behind b e = over-any most b (not-in-run b 32 e refl)
 over-run most wrong b e = refl
 

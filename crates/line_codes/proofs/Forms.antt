@@ -2,36 +2,27 @@
 use mathlib.Core.Path.{_≡_, refl, sym, _∙_, ap}
 use mathlib.Core.Bool.{Bool, true, false, cond}
 use mathlib.Core.List.{List, [], _∷_, _++_, append-assoc}
-use Prim.Native.Nat.{ℕ, zero, suc, _+_, _-_, _≤_, _<_}
+use Prim.Native.Nat.{ℕ, zero, suc, _+_, _-_, _≤_}
 use native.Mathlib.Omega.{arith}
 use lib.Dec.{eqb, ltb}
 use lib.ListN.{replicate}
 use borrow.Author.Tests.{eqb-true, eqb-false, lt-ltb, le-ltb}
 use Rattle.line_codes.specs.Line.{before, inside, behind, wrong, outOf, walked, isBehind, oneForm}
 use Rattle.line_codes.specs.Codes.{Inner, none, byte, form as inner, Form, form, OneForm}
-use Rattle.line_codes.proofs.Walks.{walked-wrong, over-plain, over-open}
+use Rattle.line_codes.proofs.Walks.{walked-wrong, over-open, over-close, over-plain, step}
 
--- ---- one byte of the walk, with brackets open
-module _ (most k : ℕ) (l : List ℕ) where
-  step-plain : (b : ℕ) → (b ≡ 40 → ⊥) → (b ≡ 41 → ⊥) → walked most (inside (suc k)) (b ∷ l) ≡ walked most (inside (suc k)) l
-  unfolding walked
-  step-plain b p q = rw (over-plain most (suc k) b p q)
-
-  step-open : suc k < most → walked most (inside (suc k)) (40 ∷ l) ≡ walked most (inside (suc (suc k))) l
-  unfolding walked
-  step-open h = rw (over-open most (suc k) h)
-
-  step-shut : walked most (inside (suc k)) (41 ∷ l) ≡ walked most (outOf k) l
-  unfolding walked
-  step-shut =
-      let e : suc k - 1 ≡ k = omega arith in rw e
+-- ---- out of a bracket, with others open
+step-shut : (most k : ℕ) (l : List ℕ) → walked most (inside (suc k)) (41 ∷ l) ≡ walked most (outOf k) l
+step-shut most k l =
+    let e : suc k - 1 ≡ k = omega arith in
+    step most (inside (suc k)) 41 l (over-close most 41 (suc k) refl ∙ ap outOf e)
 
 -- ---- the walk over what stands inside a form leaves as many brackets open as there were
 over-inner : {n : ℕ} {f : List ℕ} → Inner n f → (most k : ℕ) (l : List ℕ) → suc k + n ≤ most → walked most (inside (suc k)) (f ++ l) ≡ walked most (inside (suc k)) l
 over-inner none most k l h = refl
-over-inner (byte {b = b} {s = s} p q r) most k l h = step-plain most k (s ++ l) b p q ∙ over-inner r most k l h
+over-inner (byte {b = b} {s = s} p q r) most k l h = step most (inside (suc k)) b (s ++ l) (over-plain most b (suc k) p q) ∙ over-inner r most k l h
 over-inner (inner {f = f} {s = s} r t) most k l h =
-    step-open most k ((f ++ (41 ∷ s)) ++ l) (omega arith)
+    step most (inside (suc k)) 40 ((f ++ (41 ∷ s)) ++ l) (over-open most 40 (suc k) refl (omega arith))
     ∙ ap (walked most (inside (suc (suc k)))) (append-assoc f (41 ∷ s) l)
     ∙ over-inner r most (suc k) (41 ∷ (s ++ l)) (omega arith)
     ∙ step-shut most (suc k) (s ++ l)

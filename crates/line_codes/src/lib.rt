@@ -55,7 +55,7 @@ fn all_allowed(s: &[u8]) -> Test
     Test::Passed
 }
 
-// How deep a form may be nested that opens just before `at`: one deeper where its first word is `show`.
+// How deep the form that opens just before `at` may be nested: five where its first word is `show`, else four.
 fn deepest_at(s: &[u8], at: usize) -> usize
     requires { ⌜ at ≤ length (now s) ⌝ }
     ensures { λ r. ⌜ r ≡ deepest (opened ∷ tokens (drop at (now (s .entry)))) ⌝ }

@@ -1,4 +1,4 @@
--- `deepest_at`: how deep a form may be nested that opens just before `at`.
+-- `deepest_at`: how deep the form that opens just before `at` may be nested.
 use mathlib.Core.Path.{_≡_, sym, _∙_, ap}
 use mathlib.Core.Bool.{Bool}
 use mathlib.Core.List.{[], _∷_}

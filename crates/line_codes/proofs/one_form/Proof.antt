@@ -5,7 +5,7 @@ use mathlib.Core.Bool.{Bool, true, false, cond}
 use mathlib.Core.List.{List, _∷_}
 use mathlib.Core.Logic.{⊎-elim}
 use native.Mathlib.Omega.{arith}
-use Prim.Native.Nat.{ℕ, _+_, _-_, _≤_, _<_}
+use Prim.Native.Nat.{ℕ, suc, _+_, _-_, _≤_, _<_}
 use lib.Dec.{eqb, leb}
 use lib.ListN.{length, getD, drop}
 use borrow.Author.Tests.{eqb-true, eqb-false}
@@ -18,7 +18,7 @@ use Rattle.line_codes.specs.declared.Part.{Part}
 use Rattle.line_codes.specs.declared.Part.the-variants.{Before, Inside, Behind}
 use Rattle.line_codes.specs.declared.Test.the-variants.{Failed}
 use Rattle.line_codes.specs.Line.{Stand, before, inside, wrong, further, walked, isBehind, tested, isShow, deepest, oneForm}
-use Rattle.line_codes.proofs.Walks.{walked-wrong, walk-end, walk-on, walk-spaces, walk-plain, standOf, enters, strays, deepens, too-deep, closes, stays, goes-on}
+use Rattle.line_codes.proofs.Walks.{walked-wrong, over-enter, over-other, over-open, over-full, over-close, over-plain, over-any, walk-end, walk-on, walk-spaces, walk-plain, standOf, partOut, stand-out}
 use Rattle.line_codes.proofs.one_form.Statement.{statement}
 use Rattle.line_codes.proofs.one_form.Tie as tie
 
@@ -28,7 +28,7 @@ Known s most i Before = tokens (drop i s) ≡ tokens s
 Known s most i (Inside n) = most ≡ deepest (tokens s)
 Known s most i Behind = most ≡ deepest (tokens s)
 
-known-out : (s : List ℕ) (i n : ℕ) {r : Part} {most : ℕ} → r ≡ cond (leb n 1) Behind (Inside (n - 1)) → most ≡ deepest (tokens s) → Known s most i r
+known-out : (s : List ℕ) (i n : ℕ) {r : Part} {most : ℕ} → r ≡ partOut n → most ≡ deepest (tokens s) → Known s most i r
 known-out s i n {most = most} e k = rw e (by (leb n 1))
   where
     by : (x : Bool) → Known s most i (cond x Behind (Inside (n - 1)))
@@ -81,47 +81,65 @@ module _ (a : tie.After-shared-slice-known2 Inv-loop μ-loop) where
   abbrev place : ℕ
   place = a .before .before .loop .i
 
-  abbrev Leads : Stand → Type 0
-  Leads p = further (deepest (tokens line)) (standOf (a .before .before .loop .part)) (getD line place 0) ≡ p
+  abbrev byte : ℕ
+  byte = getD line place 0
 
-  turns : (p : Stand) → Leads p → walked (deepest (tokens line)) p (drop (place + 1) line) ≡ walked (deepest (tokens line)) before line
-  turns p e = sym (walk-on _ line place _ p (a .before .loop-test .taken) e) ∙ a .before .before .loop .inv .led .walk
+  abbrev part : Part
+  part = a .before .before .loop .part
 
-  fails : Leads wrong → Failed ≡ tested (oneForm (deepest (tokens line)) line)
-  fails e = rw (← turns wrong e, walked-wrong (deepest (tokens line)) (drop (place + 1) line))
+  abbrev limit : ℕ
+  limit = deepest (tokens line)
 
-  no-space : getD line place 0 ≡ space → ⊥
+  -- where the byte leads from a part
+  abbrev Leads : Part → Stand → Type 0
+  Leads q p = further limit (standOf q) byte ≡ p
+
+  turns : (q : Part) → part ≡ q → {p : Stand} → Leads q p → walked limit p (drop (place + 1) line) ≡ walked limit before line
+  turns q f e =
+      sym (walk-on _ line place (standOf q) (a .before .loop-test .taken) e)
+      ∙ subst (λ r. walked limit (standOf r) (drop place line) ≡ walked limit before line) f (a .before .before .loop .inv .led .walk)
+
+  fails : (q : Part) → part ≡ q → Leads q wrong → Failed ≡ tested (oneForm limit line)
+  fails q f e = rw (← turns q f e, walked-wrong limit (drop (place + 1) line))
+
+  no-space : byte ≡ space → ⊥
   no-space = a .before .before .loop .inv .noSpace (a .before .loop-test .taken)
 
-  known : (q : Part) → a .before .before .loop .part ≡ q → Known line (a .before .before .loop .most) place q
+  known : (q : Part) → part ≡ q → Known line (a .before .before .loop .most) place q
   known q e = subst (Known line (a .before .before .loop .most) place) e (a .before .before .loop .inv .led .deep)
 
   -- the form opens: its first word tells how deep it may be
-  opens : {m : ℕ} → a .before .before .loop .part ≡ Before → getD line place 0 ≡ 40 → m ≡ deepest (opened ∷ tokens (drop (place + 1) line)) → m ≡ deepest (tokens line)
+  opens : {m : ℕ} → part ≡ Before → byte ≡ 40 → m ≡ deepest (opened ∷ tokens (drop (place + 1) line)) → m ≡ limit
   opens e f g =
       let t : tokens (drop place line) ≡ opened ∷ tokens (drop (place + 1) line) = rw (drop-next line place 0 (a .before .loop-test .taken), f) (tokens-opening (drop (place + 1) line)) in
       g ∙ ap deepest (sym t ∙ known Before e)
 
-  one : (q : Part) → Leads (standOf q) → {part : Part} {most i : ℕ} → part ≡ q → Known line most (place + 1) q → i ≡ place + 1 → (place < i) × Led line part most i
-  one q e f k g = rw (f, g) (omega arith, record { within = omega (arith, a .before .loop-test .taken); walk = turns (standOf q) e; deep = k })
+  one : (q r : Part) → part ≡ q → Leads q (standOf r) → {new : Part} {most i : ℕ} → new ≡ r → Known line most (place + 1) r → i ≡ place + 1 → (place < i) × Led line new most i
+  one q r d e f k g = rw (f, g) (omega arith, record { within = omega (arith, a .before .loop-test .taken); walk = turns q d e; deep = k })
 
   -- over bytes that are no brackets
-  plain : {n j : ℕ} → Leads (inside n) → j ≡ place + 1 + prefix (ofClass 13) (drop (place + 1) line) → j ≤ length line → {part : Part} {most i : ℕ} → part ≡ Inside n → most ≡ deepest (tokens line) → i ≡ j → (place < i) × Led line part most i
-  plain {n = n} e there h f k g =
-      rw (f, g) (omega arith, record { within = h; walk = sym (walk-plain _ line (place + 1) n there) ∙ turns (inside n) e; deep = k })
+  plain : (n : ℕ) → part ≡ Inside n → Leads (Inside n) (inside n) → {j : ℕ} → j ≡ place + 1 + prefix (ofClass 13) (drop (place + 1) line) → j ≤ length line → {new : Part} {most i : ℕ} → new ≡ Inside n → most ≡ limit → i ≡ j → (place < i) × Led line new most i
+  plain n d e there h f k g =
+      rw (f, g) (omega arith, record { within = h; walk = sym (walk-plain _ line (place + 1) n there) ∙ turns (Inside n) d e; deep = k })
 
 returns : tie.Need-returns Inv-loop μ-loop
 returns c =
     let a = c .before .before .before in
-    fails a (strays _ _ (c .before .enum-told .given .1) (c .if1 .taken) (no-space a))
+    fails a Before (c .before .enum-told .given .1) (over-other (limit a) (byte a) (c .if1 .taken) (no-space a))
 
 returns-2 : tie.Need-returns-2 Inv-loop μ-loop
 returns-2 c =
     let k = c .before .before .before in
     let a = k .before .before in
-    fails a (too-deep _ _ (k .part .given .1) (c .before .if2 .taken) (omega (arith, known a (Inside _) (k .part .given .1), c .if3 .taken)))
+    let e = k .part .given .1 in
+    fails a (Inside _) e (over-full (limit a) (byte a) (k .part .given .0 .0) (c .before .if2 .taken) (omega (arith, known a (Inside _) e, c .if3 .taken)))
 
--- a count of so many brackets fits
+returns-3 : tie.Need-returns-3 Inv-loop μ-loop
+returns-3 c =
+    let a = c .before .before in
+    fails a Behind (c .enum-told2 .given .1) (over-any (limit a) (byte a) (no-space a))
+
+-- how deep a form may be is far below what a count can hold; any few brackets more would do
 cond-le : (x : Bool) {a b n : ℕ} → a ≤ n → b ≤ n → cond x a b ≤ n
 cond-le true p q = p
 cond-le false p q = q
@@ -136,24 +154,29 @@ add-t14 c =
     let m = deepest-fits (tokens (line (k .before .before))) in
     record { fits = omega (arith, d, m, c .if3 .left) }
 
-returns-3 : tie.Need-returns-3 Inv-loop μ-loop
-returns-3 c = fails (c .before .before) (goes-on _ _ (c .enum-told2 .given .1) (no-space (c .before .before)))
-
 arrives : (c : tie.At-match-came Inv-loop μ-loop) → (place (c .before) < c .match .i) × Led (line (c .before)) (c .match .part) (c .match .most) (c .match .i)
 arrives c =
     let a = c .before in
-    ⊎-elim (λ w. one a (Inside 1) (enters _ _ (w .1 .given .1) (w .2 .left)) (w .4) (w .5 ∙ opens a (w .1 .given .1) (w .2 .left) (w .3 .ensures)) (w .6))
-    (⊎-elim
-    (λ w.
-    let d = known a (Inside _) (w .1 .given .1) in
-    one a (Inside _) (deepens _ _ (w .1 .given .1) (w .3 .taken) (omega (arith, d, w .4 .left))) (w .5) (w .6 ∙ d) (w .7))
-    (⊎-elim
+    ⊎-elim
     (λ w.
     let e = w .1 .given .1 in
-    one a (w .5 .result) (closes _ _ e (w .4 .taken) (w .5 .ensures)) (w .6) (known-out (line a) (place a + 1) (w .1 .given .0 .0) (w .5 .ensures) (w .7 ∙ known a (Inside _) e)) (w .8))
+    one a Before (Inside 1) e (over-enter (limit a) (byte a) (w .2 .left)) (w .4) (w .5 ∙ opens a e (w .2 .left) (w .3 .ensures)) (w .6))
+    (⊎-elim
     (λ w.
+    let n = w .1 .given .0 .0 in
     let e = w .1 .given .1 in
-    plain a (stays _ _ e (w .3 .left) (w .4 .left)) (w .5 .ensures .0) (w .5 .ensures .1) (w .6) (w .7 ∙ known a (Inside _) e) (w .8))))
+    let d = known a (Inside n) e in
+    let s : n + 1 ≡ suc n = omega arith in
+    one a (Inside n) (Inside (n + 1)) e (rw s (over-open (limit a) (byte a) n (w .3 .taken) (omega (arith, d, w .4 .left)))) (w .5) (w .6 ∙ d) (w .7))
+    (⊎-elim
+    (λ w.
+    let n = w .1 .given .0 .0 in
+    let e = w .1 .given .1 in
+    one a (Inside n) (w .5 .result) e (over-close (limit a) (byte a) n (w .4 .taken) ∙ stand-out n ∙ sym (ap standOf (w .5 .ensures))) (w .6) (known-out (line a) (place a + 1) n (w .5 .ensures) (w .7 ∙ known a (Inside n) e)) (w .8))
+    (λ w.
+    let n = w .1 .given .0 .0 in
+    let e = w .1 .given .1 in
+    plain a n e (over-plain (limit a) (byte a) n (w .3 .left) (w .4 .left)) (w .5 .ensures .0) (w .5 .ensures .1) (w .6) (w .7 ∙ known a (Inside n) e) (w .8))))
     (c .match .came)
 
 scan-requires-3 : tie.Need-scan-requires-3 Inv-loop μ-loop
