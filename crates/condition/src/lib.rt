@@ -1,4 +1,5 @@
 // The condition that the panel keeps.
+#![tactic(auto)]
 ghost use Rattle.std.specs.Prelude.{◌≡◌};
 ghost use Rattle.condition.specs.Condition.{empty};
 

@@ -1,4 +1,5 @@
 // What is heard of a line: the code of the tests of the whole line, or its request.
+#![tactic(auto)]
 ghost use Rattle.std.specs.Prelude.{◌≡◌};
 ghost use Rattle.hearing.specs.Hearing.{heard_of};
 
