@@ -12,7 +12,7 @@ ghost use Rattle.arms.specs.Walk.{left_over, left_overs, ReachOf, Small, Bounded
 use record::{Column, Load};
 
 // What the arms are read from: the two columns around the displacement, the load, and the total weight moment W in kg·m.
-#[derive(Drop)]
+#[derive(Clone, Copy)]
 pub struct Basis {
     pub low: Column,
     pub high: Column,
@@ -63,7 +63,7 @@ fn arm_over(span: u64, past: u64, x: u64, y: u64) -> u64
 }
 
 // D2 - D1, D - D1 and fluid KG.
-#[derive(Drop)]
+#[derive(Clone, Copy)]
 struct Reach {
     span: u64,
     past: u64,

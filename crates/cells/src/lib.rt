@@ -8,7 +8,7 @@ ghost use Rattle.cells.specs.Sizes.{most_held, sizes_of};
 use record::Cell;
 
 // A cell's width, void area, and the most that it can hold.
-#[derive(Drop)]
+#[derive(Clone, Copy)]
 pub struct CellSizes {
     pub width: u64,
     pub area: u64,

@@ -8,14 +8,14 @@ ghost use Rattle.columns.specs.Search.{columns_around};
 use record::{Column, Columns};
 
 // The place of the first of two neighbouring columns around a displacement.
-#[derive(Drop)]
+#[derive(Clone, Copy)]
 pub enum Around {
     At(usize),
     Outside,
 }
 
 // What a list of columns answers to one more.
-#[derive(Drop)]
+#[derive(Clone, Copy)]
 pub enum Added {
     Taken,
     Limits,

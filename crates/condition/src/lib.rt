@@ -7,7 +7,7 @@ use record::{Columns, Hold, ItemSums, Load, Rule, Ship};
 
 // One loading condition of one ship. A place of `holds` with no parts holds no hold; `total` is the weight moment of all holds, in kg·m;
 // `sums` are those of the weight items taken since the start or the last removal.
-#[derive(Drop)]
+#[derive(Clone, Copy)]
 pub struct Condition {
     pub shipped: bool,
     pub ship: Ship,

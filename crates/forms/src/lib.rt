@@ -13,7 +13,7 @@ use record::{Column, Head, Hold, Load, Mode, Rule, Ship, Weighing};
 
 // Which form a line is. A hold's and a column's record stand beside it: an enum that holds an array is not covered by the
 // prover's walk.
-#[derive(Drop)]
+#[derive(Clone, Copy)]
 pub enum Kind {
     ShipLine(Ship),
     ColumnLine,
@@ -28,7 +28,7 @@ pub enum Kind {
     NoShape,
 }
 
-#[derive(Drop)]
+#[derive(Clone, Copy)]
 pub struct Request {
     pub kind: Kind,
     pub hold: Hold,
@@ -36,27 +36,27 @@ pub struct Request {
 }
 
 // The word of a rule.
-#[derive(Drop)]
+#[derive(Clone, Copy)]
 pub enum RuleWord {
     NewWord,
     OldWord,
 }
 
-#[derive(Drop)]
+#[derive(Clone, Copy)]
 pub enum RuleNamed {
     Under(RuleWord),
     NoRule,
 }
 
 // A mode, where its word was read.
-#[derive(Drop)]
+#[derive(Clone, Copy)]
 pub enum ModeNamed {
     As(Mode),
     NoMode,
 }
 
 // The word of a form.
-#[derive(Drop)]
+#[derive(Clone, Copy)]
 pub enum FormWord {
     ShipWord,
     ColumnWord,
@@ -69,7 +69,7 @@ pub enum FormWord {
 }
 
 // A form's request, and the place behind the form.
-#[derive(Drop)]
+#[derive(Clone, Copy)]
 pub struct Form {
     pub request: Request,
     pub end: Place,

@@ -13,7 +13,7 @@ use record::{Hold, Mode, Part};
 
 // Sums along a section up to x, the low boundary of the next cell: the excess so far, the kept areas' moment about the low
 // end, their first moments, and twice the old areas' moment.
-#[derive(Drop)]
+#[derive(Clone, Copy)]
 pub struct Sums {
     pub x: u64,
     pub excess: u64,
@@ -23,7 +23,7 @@ pub struct Sums {
 }
 
 // What a hold record answers: its weight moment in kg·m, that it is outside its limits, or that a void does not fit.
-#[derive(Drop)]
+#[derive(Clone, Copy)]
 pub enum Weighed {
     Weight(u64),
     Limits,
@@ -31,7 +31,7 @@ pub enum Weighed {
 }
 
 // A moment, or that a void does not fit.
-#[derive(Drop)]
+#[derive(Clone, Copy)]
 pub enum Shifted {
     Moment(u64),
     NoFit,

@@ -6,7 +6,7 @@ ghost use Rattle.hearing.specs.Hearing.{heard_of};
 use forms::{Kind, Request};
 
 // What is heard of a line: the code that turns it down, or 0 and its request.
-#[derive(Drop)]
+#[derive(Clone, Copy)]
 pub struct Heard {
     pub code: u8,
     pub request: Request,

@@ -5,7 +5,7 @@ ghost use Rattle.input.specs.Lines.{most_lines, most_bytes, line_length};
 ghost use Rattle.input.specs.Limits.{Asked, ToldIs};
 
 // What a read tells: the input goes on; the line that has begun is its last; no line more.
-#[derive(Drop)]
+#[derive(Clone, Copy)]
 pub enum Told {
     Goes,
     LastLine,

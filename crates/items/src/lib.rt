@@ -9,35 +9,35 @@ ghost use Rattle.items.specs.Places.{is_end, Ends, PlaceIs, SpanIs, ItemIs, Size
 use text::{Next, Number};
 
 // The place behind what was looked for.
-#[derive(Drop)]
+#[derive(Clone, Copy)]
 pub enum Place {
     At(usize),
     Nowhere,
 }
 
 // A run, from a place to a place.
-#[derive(Drop)]
+#[derive(Clone, Copy)]
 pub enum Span {
     From(usize, usize),
     NoRun,
 }
 
 // A number, and the place behind it.
-#[derive(Drop)]
+#[derive(Clone, Copy)]
 pub enum Item {
     Value(u32, usize),
     NoValue,
 }
 
 // A number as its field carries it, and the place behind it.
-#[derive(Drop)]
+#[derive(Clone, Copy)]
 pub enum Size {
     Kept(u16, usize),
     NoSize,
 }
 
 // The last numbers of a form, and the place behind its closing bracket.
-#[derive(Drop)]
+#[derive(Clone, Copy)]
 pub struct Sizes {
     pub values: [u16; 10],
     pub end: Place,

@@ -16,7 +16,7 @@ use stability::{Judgement, Verdict};
 const GREATEST_WEIGHT: u64 = 1000000000;
 
 // What judge answers: a refusal with its code, or a verdict.
-#[derive(Drop)]
+#[derive(Clone, Copy)]
 pub enum Judged {
     Refused(u8),
     Given(Verdict),

@@ -16,7 +16,7 @@ const DEEPEST: usize = 4;
 const DEEPEST_IN_SHOW: usize = 5;
 
 // What the tests of a whole line find, in their order.
-#[derive(Drop)]
+#[derive(Clone, Copy)]
 pub enum Reading {
     Sound,
     TooLong,
@@ -26,14 +26,14 @@ pub enum Reading {
 }
 
 // How a test of a whole line ends.
-#[derive(Drop)]
+#[derive(Clone, Copy)]
 enum Test {
     Passed,
     Failed,
 }
 
 // Which part of a line a place is in: before its form, inside it with this many brackets open, behind it.
-#[derive(Drop)]
+#[derive(Clone, Copy)]
 enum Part {
     Before,
     Inside(usize),

@@ -15,7 +15,7 @@ const FILLED: usize = 63436;
 
 // What goes from block to block, beside the kept bytes of a line and the replies: the condition, the lines that may still be
 // taken, how many bytes of a line that has begun are kept, and how many bytes of replies wait.
-#[derive(Drop)]
+#[derive(Clone, Copy)]
 pub struct Feed {
     pub cond: Condition,
     pub left: u64,
@@ -24,7 +24,7 @@ pub struct Feed {
 }
 
 // The same, with the place in the block up to which lines were taken.
-#[derive(Drop)]
+#[derive(Clone, Copy)]
 pub struct Taken {
     pub feed: Feed,
     pub at: usize,

@@ -24,7 +24,7 @@ const LEAST_ROOM: usize = 96;
 const SHOW_ROOM: usize = 2100;
 
 // A code, the length of the reply that shows it, and the moment of a hold that was weighed for it, which its effect puts into the figure.
-#[derive(Drop)]
+#[derive(Clone, Copy)]
 pub struct Replied {
     pub code: u8,
     pub len: usize,
@@ -32,7 +32,7 @@ pub struct Replied {
 }
 
 // What a line gives: its code, the reply's length and the condition after it.
-#[derive(Drop)]
+#[derive(Clone, Copy)]
 pub struct Stepped {
     pub code: u8,
     pub len: usize,

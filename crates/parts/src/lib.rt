@@ -14,41 +14,41 @@ use items::{Place, Size, Span};
 use record::{Cell, Mode, Part, Slot};
 
 // The word of a cell.
-#[derive(Drop)]
+#[derive(Clone, Copy)]
 pub enum CellWord {
     WingWord,
     HatchWord,
     VoidWord,
 }
 
-#[derive(Drop)]
+#[derive(Clone, Copy)]
 pub enum CellNamed {
     As(CellWord),
     NoWord,
 }
 
-#[derive(Drop)]
+#[derive(Clone, Copy)]
 pub enum CellItem {
     Found(Cell, usize),
     NoCell,
 }
 
 // The cells of a part: the first `count` of the eight places.
-#[derive(Drop)]
+#[derive(Clone, Copy)]
 pub struct Cells {
     pub count: u8,
     pub slots: [Slot; 8],
     pub end: Place,
 }
 
-#[derive(Drop)]
+#[derive(Clone, Copy)]
 pub struct PartItem {
     pub part: Part,
     pub end: Place,
 }
 
 // The parts of a hold: the first `count` of the six places.
-#[derive(Drop)]
+#[derive(Clone, Copy)]
 pub struct Parts {
     pub count: u8,
     pub parts: [Part; 6],

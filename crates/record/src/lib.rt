@@ -5,21 +5,21 @@ ghost use Rattle.record.specs.Held.{cell_width, cell_lip};
 ghost use Rattle.record.specs.Filler.{no_slot, no_part, no_hold, no_column, no_columns, no_sums};
 
 // The rule that judges the ship, with the angle of deck-edge immersion, in hundredths of a degree.
-#[derive(Drop)]
+#[derive(Clone, Copy)]
 pub enum Rule {
     New(u16),
     Old(u16),
 }
 
 // FLOOD is the angle of flooding.
-#[derive(Drop)]
+#[derive(Clone, Copy)]
 pub struct Ship {
     pub rule: Rule,
     pub flood: u16,
 }
 
 // Displacement in tonnes; KG and the free-surface rise FS in mm.
-#[derive(Drop)]
+#[derive(Clone, Copy)]
 pub struct Load {
     pub d: u32,
     pub kg: u16,
@@ -27,7 +27,7 @@ pub struct Load {
 }
 
 // A displacement, with KM and the ten cross-curve values KN in mm.
-#[derive(Drop)]
+#[derive(Clone, Copy)]
 pub struct Column {
     pub d: u32,
     pub km: u16,
@@ -35,13 +35,13 @@ pub struct Column {
 }
 
 // The columns held: the first `count` of the twenty places.
-#[derive(Drop)]
+#[derive(Clone, Copy)]
 pub struct Columns {
     pub count: u8,
     pub places: [Column; 20],
 }
 
-#[derive(Drop)]
+#[derive(Clone, Copy)]
 pub enum Mode {
     Trimmed,
     Voided,
@@ -49,7 +49,7 @@ pub enum Mode {
 }
 
 // A cell of a trimmed section; lengths in mm.
-#[derive(Drop)]
+#[derive(Clone, Copy)]
 pub enum Cell {
     Wing {
         width: u16,
@@ -70,14 +70,14 @@ pub enum Cell {
 }
 
 // A field that is an array of enums is not covered by the prover's walk; an array of structs is.
-#[derive(Drop)]
+#[derive(Clone, Copy)]
 pub struct Slot {
     pub cell: Cell,
 }
 
 // A part of a hold: a trimmed or voided one has cells, the first `count` of the eight places; a partly filled one has
 // breadth, void and grain.
-#[derive(Drop)]
+#[derive(Clone, Copy)]
 pub struct Part {
     pub length: u16,
     pub breadth: u16,
@@ -88,35 +88,35 @@ pub struct Part {
 }
 
 // A hold's mode, stowage factor and number of parts: none where no hold is held.
-#[derive(Drop)]
+#[derive(Clone, Copy)]
 pub struct Head {
     pub mode: Mode,
     pub factor: u16,
     pub count: u8,
 }
 
-#[derive(Drop)]
+#[derive(Clone, Copy)]
 pub struct Hold {
     pub head: Head,
     pub parts: [Part; 6],
 }
 
 // A weight of the ship: tonnes, at a height in mm above the keel, as KG.
-#[derive(Drop)]
+#[derive(Clone, Copy)]
 pub struct WeightItem {
     pub tonnes: u32,
     pub height: u16,
 }
 
 // The sums of weight items: their tonnes, and the products of tonnes and height.
-#[derive(Drop)]
+#[derive(Clone, Copy)]
 pub struct ItemSums {
     pub tonnes: u32,
     pub products: u64,
 }
 
 // What a line of weights asks for: one item more; the load that the items make, with this free-surface rise; to remove all items.
-#[derive(Drop)]
+#[derive(Clone, Copy)]
 pub enum Weighing {
     Weight(WeightItem),
     Weighed(u16),

@@ -16,14 +16,14 @@ use items::{Item, Place, Span};
 use record::{Weighing, WeightItem};
 
 // The word of a line's form, from a place to a place, and whether the form is inside a show.
-#[derive(Drop)]
+#[derive(Clone, Copy)]
 pub enum Word {
     Of(usize, usize, bool),
     NoForm,
 }
 
 // A line by its word: one of document 01's forms, or one that no show takes.
-#[derive(Drop)]
+#[derive(Clone, Copy)]
 pub enum LineWord {
     OfForm(FormWord),
     TotalWord,

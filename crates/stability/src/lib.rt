@@ -10,7 +10,7 @@ use arms::Basis;
 use record::{Rule, Ship};
 
 // What the verdict says: passed, or the first test that fails.
-#[derive(Drop)]
+#[derive(Clone, Copy)]
 pub enum Judgement {
     Passed,
     ShortOfGm,
@@ -20,7 +20,7 @@ pub enum Judgement {
 }
 
 // GM and DIFF at the heel limit in micrometres, UPPER in hundredths of a degree, AREA in both multiplied.
-#[derive(Drop)]
+#[derive(Clone, Copy)]
 pub struct Verdict {
     pub judgement: Judgement,
     pub gm: i64,

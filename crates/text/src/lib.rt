@@ -20,14 +20,14 @@ pub const SPACE: u8 = 4;
 pub const OTHER: u8 = 8;
 
 // What a run of digits and letters says.
-#[derive(Drop)]
+#[derive(Clone, Copy)]
 pub enum Number {
     Is(u32),
     Bad,
 }
 
 // What stands next in a line: a bracket and the place behind it, a run from a place to a place, or nothing more.
-#[derive(Drop)]
+#[derive(Clone, Copy)]
 pub enum Next {
     Open(usize),
     Close(usize),

@@ -1,0 +1,6 @@
+-- `no_columns`
+use borrow.Author.Rules.{rules}
+use Rattle.record.proofs.no_columns.Goals as goal
+
+pub returns : goal.returns
+returns c = rw c.no_column-k.ensures
