@@ -5,7 +5,6 @@ use Prim.Native.Nat.{◌≤◌, ◌-◌}
 use native.Mathlib.Omega.{arith}
 use mathlib.Core.Path.{◌≡◌, sym, ◌∙◌}
 use lib.ListN.{length, drop}
-use borrow.Author.Tests.{not-true, not-false}
 use Rattle.whole.proofs.Lists.{within_true}
 use Rattle.text.proofs.Numbers.{digits_out, digits_bad, digits_on, digits_large}
 use Rattle.text.proofs.digits_of.Goals as goal
@@ -15,30 +14,30 @@ returns-then-not-is_digit c =
     let s = c.args.run.now in
     let i = c.loop-i.i in
     let v = c.loop-i.v in
-    sym (digits_bad s i (search rules) v (sym c.is_digit.ensures ∙ not-true _ c.if-not-is_digit.true)) ∙ c.loop-i.invariant.2
+    sym (digits_bad s i (search rules) v (sym c.is_digit.ensures ∙ c.if-not-is_digit.true)) ∙ c.loop-i.invariant.2
 
 pub overflow_sub-w : goal.overflow_sub-w
-overflow_sub-w c = let d = within_true 48 57 _ (sym c.is_digit.ensures ∙ not-false _ c.if-not-is_digit.false) in search rules
+overflow_sub-w c = let d = within_true 48 57 _ (sym c.is_digit.ensures ∙ c.if-not-is_digit.false) in search rules
 
 pub overflow_cast-w : goal.overflow_cast-w
-overflow_cast-w c = let d = within_true 48 57 _ (sym c.is_digit.ensures ∙ not-false _ c.if-not-is_digit.false) in search rules
+overflow_cast-w c = let d = within_true 48 57 _ (sym c.is_digit.ensures ∙ c.if-not-is_digit.false) in search rules
 
 pub overflow_add-w : goal.overflow_add-w
-overflow_add-w c = let d = within_true 48 57 _ (sym c.is_digit.ensures ∙ not-false _ c.if-not-is_digit.false) in search rules
+overflow_add-w c = let d = within_true 48 57 _ (sym c.is_digit.ensures ∙ c.if-not-is_digit.false) in search rules
 
 pub returns-then-w-gt-GREATEST_NUMBER : goal.returns-then-w-gt-GREATEST_NUMBER
 returns-then-w-gt-GREATEST_NUMBER c =
     let s = c.args.run.now in
     let i = c.loop-i.i in
     let v = c.loop-i.v in
-    sym (digits_large s i (search rules) v (sym c.is_digit.ensures ∙ not-false _ c.if-not-is_digit.false) (search rules)) ∙ c.loop-i.invariant.2
+    sym (digits_large s i (search rules) v (sym c.is_digit.ensures ∙ c.if-not-is_digit.false) (search rules)) ∙ c.loop-i.invariant.2
 
 pub loop-i-preserved : goal.loop-i-preserved
 loop-i-preserved c =
     let s = c.args.run.now in
     let i = c.loop-i.i in
     let v = c.loop-i.v in
-    (omega arith, omega arith, sym (digits_on s i (search rules) v (sym c.is_digit.ensures ∙ not-false _ c.if-not-is_digit.false)) ∙ c.loop-i.invariant.2)
+    (omega arith, omega arith, sym (digits_on s i (search rules) v (sym c.is_digit.ensures ∙ c.if-not-is_digit.false)) ∙ c.loop-i.invariant.2)
 
 pub returns : goal.returns
 returns c =

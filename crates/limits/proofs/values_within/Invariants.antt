@@ -1,0 +1,16 @@
+-- `values_within`: whether each KN is within its limits.
+use mathlib.Core.Path.{◌≡◌, sym, ◌∙◌}
+use Prim.Native.Nat.{◌≤◌, ◌-◌}
+use native.Mathlib.Omega.{arith}
+use borrow.Author.Rules.{rules}
+use borrow.Author.Tests.{not-true, not-false}
+use lib.ListN.{drop}
+use Rattle.whole.specs.Lists.{within, all}
+use Rattle.whole.proofs.Lists.{all_stop, all_go, all_done}
+use Rattle.limits.proofs.values_within.Given as goal
+
+abbrev pub invariant-loop-i : goal.invariant-loop-i
+invariant-loop-i l = (l.i ≤ 10) × (all (within 0 50000) (drop l.i l.kn) ≡ all (within 0 50000) l.kn)
+
+abbrev pub decreases-loop-i : goal.decreases-loop-i
+decreases-loop-i l = 10 - l.i
