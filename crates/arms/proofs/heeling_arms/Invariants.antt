@@ -1,0 +1,17 @@
+-- `heeling_arms`
+use borrow.Author.Rules.{rules}
+use mathlib.Core.Path.{◌≡◌}
+use Prim.Native.Nat.{ℕ, ◌-◌, ◌≤◌, ◌<◌}
+use native.Mathlib.Omega.{arith}
+use lib.ListN.{length, get_or}
+use borrow.Author.Count.{below_none}
+use Rattle.whole.proofs.Lists.{filled_more, filled_is}
+use Rattle.arms.specs.Arms.{heeling_arm}
+use Rattle.arms.specs.Judgeable.{Judgeable}
+use Rattle.arms.proofs.heeling_arms.Given as goal
+
+abbrev pub invariant-loop-k : goal.invariant-loop-k
+invariant-loop-k l = Judgeable l.b × (length l.arms ≡ 10) × (l.k ≤ 10) × ((i : ℕ) → i < l.k → get_or l.arms i 0 ≡ heeling_arm l.b i)
+
+abbrev pub decreases-loop-k : goal.decreases-loop-k
+decreases-loop-k l = 10 - l.k

@@ -1,0 +1,50 @@
+-- `column_answer`: what the columns held answer to one more.
+use mathlib.Core.Path.{◌≡◌, sym, ◌∙◌}
+use mathlib.Core.Bool.{true, false}
+use native.Mathlib.Omega.{arith}
+use borrow.Author.Tests.{not-false, lt-ltb, le-ltb}
+use lib.ListN.{length, length-take}
+use Rattle.whole.proofs.Lists.{unmapped}
+use Rattle.limits.specs.Limits.{column_limits}
+use Rattle.record.specs.Held.{held}
+use Rattle.record.proofs.Taken.{past_column}
+use Rattle.columns.proofs.Adding.{answer_limits, answer_full, answer_above, above_none, above_last}
+use borrow.Author.Rules.{rules}
+use Rattle.columns.proofs.column_answer.Goals as goal
+
+pub returns-then-not-column_limits : goal.returns-then-not-column_limits
+returns-then-not-column_limits c = answer_limits (held c.args.cs) c.args.k (sym c.column_limits.ensures ∙ c.if-not-column_limits.true)
+
+pub returns-then-n-ge20 : goal.returns-then-n-ge20
+returns-then-n-ge20 c =
+    let a = c.args in
+    let l : length a.cs.places ≡ 20 = search (unmapped, rules) in
+    let good : column_limits a.k ≡ true = sym c.column_limits.ensures ∙ c.if-not-column_limits.false in
+    answer_full (held a.cs) a.k good (omega (arith, length-take a.cs.count a.cs.places))
+
+pub returns-then-n-eq0 : goal.returns-then-n-eq0
+returns-then-n-eq0 c =
+    let a = c.args in
+    let l : length a.cs.places ≡ 20 = search (unmapped, rules) in
+    let good : column_limits a.k ≡ true = sym c.column_limits.ensures ∙ c.if-not-column_limits.false in
+    answer_above (held a.cs) a.k good true (omega (arith, length-take a.cs.count a.cs.places)) (above_none a.k.d a.cs.places a.cs.count (omega arith))
+
+pub returns-then-last-k : goal.returns-then-last-k
+returns-then-last-k c =
+    let if1 = c.if-not-column_limits in
+    let column-limits = c.column_limits in
+    let a = c.args in
+    let l : length a.cs.places ≡ 20 = search (unmapped, rules) in
+    let good : column_limits a.k ≡ true = sym column-limits.ensures ∙ not-false _ if1.false in
+    answer_above (held a.cs) a.k good true (omega (arith, length-take a.cs.count a.cs.places))
+    (above_last a.k.d a.cs.places a.cs.count past_column (omega arith) (omega arith) ∙ lt-ltb _ _ c.if-last-k.true)
+
+pub returns-else-last-k : goal.returns-else-last-k
+returns-else-last-k c =
+    let if1 = c.if-not-column_limits in
+    let column-limits = c.column_limits in
+    let a = c.args in
+    let l : length a.cs.places ≡ 20 = search (unmapped, rules) in
+    let good : column_limits a.k ≡ true = sym column-limits.ensures ∙ not-false _ if1.false in
+    answer_above (held a.cs) a.k good false (omega (arith, length-take a.cs.count a.cs.places))
+    (above_last a.k.d a.cs.places a.cs.count past_column (omega arith) (omega arith) ∙ le-ltb _ _ c.if-last-k.false)

@@ -1,0 +1,21 @@
+-- `in_order`: whether each column held is within its limits and above the one before.
+use mathlib.Core.Path.{◌≡◌, refl, sym, ◌∙◌, ap}
+use Prim.Native.Nat.{◌≤◌, ◌<◌, ◌+◌, ◌-◌}
+use native.Mathlib.Omega.{arith}
+use lib.ListN.{length, drop, length-take}
+use lib.Seq.{get_or-take}
+use borrow.Author.Tests.{not-true, not-false}
+use Rattle.whole.proofs.Lists.{unmapped}
+use Rattle.record.specs.Held.{held}
+use Rattle.columns.specs.Columns.{in_order}
+use Rattle.limits.specs.Limits.{column_limits}
+use Rattle.record.proofs.Taken.{past_column}
+use Rattle.columns.proofs.Order.{order_none, order_limits, order_last, order_not_above, order_next}
+use borrow.Author.Rules.{rules}
+use Rattle.columns.proofs.in_order.Given as goal
+
+abbrev pub invariant-loop-i : goal.invariant-loop-i
+invariant-loop-i l = (length l.cs.places ≡ 20) × (l.n ≡ length (held l.cs)) × (l.n ≤ 20) × (l.i ≤ 20) × (in_order (drop l.i (held l.cs)) ≡ in_order (held l.cs))
+
+abbrev pub decreases-loop-i : goal.decreases-loop-i
+decreases-loop-i l = l.n - l.i
