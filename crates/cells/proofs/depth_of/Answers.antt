@@ -6,7 +6,7 @@ use Rattle.cells.proofs.depth_of.Goals as goal
 
 pub returns-in-Wing : goal.returns-in-Wing
 unfolding cell_depth
-returns-in-Wing c = rw c.in-Wing.is (c.wing_depth.ensures.value, c.wing_depth.ensures.upper_bound)
+returns-in-Wing c = rw c.in-Wing.is (record { value = c.wing_depth.ensures.value; upper_bound = c.wing_depth.ensures.upper_bound })
 
 pub returns-in-Hatch : goal.returns-in-Hatch
 unfolding cell_depth

@@ -2,7 +2,7 @@
 use mathlib.Core.Path.{◌≡◌, sym, ◌∙◌}
 use mathlib.Core.Bool.{true, false}
 use native.Mathlib.Omega.{arith}
-use borrow.Author.Tests.{not-false, lt-ltb, le-ltb}
+use borrow.Author.Tests.{lt-ltb, le-ltb}
 use lib.ListN.{length, length-take}
 use Rattle.whole.proofs.Lists.{unmapped}
 use Rattle.limits.specs.Limits.{column_limits}
@@ -35,7 +35,7 @@ returns-then-last-k c =
     let column-limits = c.column_limits in
     let a = c.args in
     let l : length a.cs.places ≡ 20 = search (unmapped, rules) in
-    let good : column_limits a.k ≡ true = sym column-limits.ensures ∙ not-false _ if1.false in
+    let good : column_limits a.k ≡ true = sym column-limits.ensures ∙ if1.false in
     answer_above (held a.cs) a.k good true (omega (arith, length-take a.cs.count a.cs.places))
     (above_last a.k.d a.cs.places a.cs.count past_column (omega arith) (omega arith) ∙ lt-ltb _ _ c.if-last-k.true)
 
@@ -45,6 +45,6 @@ returns-else-last-k c =
     let column-limits = c.column_limits in
     let a = c.args in
     let l : length a.cs.places ≡ 20 = search (unmapped, rules) in
-    let good : column_limits a.k ≡ true = sym column-limits.ensures ∙ not-false _ if1.false in
+    let good : column_limits a.k ≡ true = sym column-limits.ensures ∙ if1.false in
     answer_above (held a.cs) a.k good false (omega (arith, length-take a.cs.count a.cs.places))
     (above_last a.k.d a.cs.places a.cs.count past_column (omega arith) (omega arith) ∙ le-ltb _ _ c.if-last-k.false)
