@@ -1,0 +1,15 @@
+-- `area_to`: AREA from 0 to UPPER.
+use borrow.Author.Rules.{rules}
+use mathlib.Core.Path.{◌≡◌, ◌∙◌, ap₂}
+use Prim.Native.Nat.{◌+◌, ◌*◌, ◌-◌, ◌^◌, ◌≤◌}
+use native.Mathlib.Omega.{arith}
+use Rattle.area.specs.Area.{area_over}
+use Rattle.arms.specs.Arms.{plus_at, minus_at}
+use Rattle.area.proofs.Stretches.{area_none, area_more}
+use Rattle.area.proofs.area_to.Given as goal
+
+abbrev pub invariant-loop-k : goal.invariant-loop-k
+invariant-loop-k l = (l.k ≤ 9) × (l.total ≡ area_over (plus_at l.ds) (minus_at l.ds) l.upper l.k) × (l.total ≤ l.k * 2 ^ 36)
+
+abbrev pub decreases-loop-k : goal.decreases-loop-k
+decreases-loop-k l = 9 - l.k

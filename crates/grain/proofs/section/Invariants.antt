@@ -1,0 +1,16 @@
+-- `section`: the section moment of a part's cells, or that its void does not fit.
+use borrow.Author.Rules.{rules}
+use mathlib.Core.Path.{◌≡◌, refl}
+use Prim.Native.Nat.{◌+◌, ◌-◌, ◌≤◌}
+use native.Mathlib.Omega.{arith}
+use lib.ListN.{length}
+use Rattle.whole.proofs.Lists.{unmapped}
+use Rattle.record.specs.Held.{cells_of}
+use Rattle.grain.proofs.Walks.{PartWithin, part_within, Ahead, ahead_start, part_room, part_next, part_last, part_not_negative}
+use Rattle.grain.proofs.section.Given as goal
+
+abbrev pub invariant-loop-i : goal.invariant-loop-i
+invariant-loop-i l = PartWithin l.p × (length l.p.cells ≡ 8) × (l.n ≡ l.p.count) × (l.i + 1 ≤ l.n) × Ahead (cells_of l.p) l.i l.s
+
+abbrev pub decreases-loop-i : goal.decreases-loop-i
+decreases-loop-i l = l.n - l.i

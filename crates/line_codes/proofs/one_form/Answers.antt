@@ -1,0 +1,182 @@
+-- `one_form`: 12: whether a line is one closed form, with only spaces outside it, no deeper than its first word lets.
+use mathlib.Core.Path.{◌≡◌, refl, sym, ◌∙◌, ap, subst}
+use mathlib.Core.Bool.{Bool, true, false, cond}
+use mathlib.Core.List.{List, ◌∷◌}
+use mathlib.Core.Logic.{⊎_elim}
+use native.Mathlib.Omega.{arith}
+use Prim.Native.Nat.{ℕ, suc, ◌+◌, ◌-◌, ◌≤◌, ◌<◌}
+use lib.Dec.{eqb, leb}
+use lib.ListN.{length, get_or, drop}
+use borrow.Author.Tests.{eqb-true, eqb-false}
+use Rattle.whole.proofs.Lists.{drop_next}
+use Rattle.text.specs.Token.{space, prefix, Token, opened, tokens}
+use Rattle.text.specs.Places.{spaces, of_class}
+use Rattle.text.proofs.Parts.{tokens_opening, tokens_space}
+use Rattle.text.proofs.Scans.{stands, asked_spaces, scan_over, scan_stop}
+use Rattle.line_codes.specs.declared.Part.{Part}
+use Rattle.line_codes.specs.declared.Part.TheVariants.{Before, Inside, Behind}
+use Rattle.line_codes.specs.declared.Test.TheVariants.{Failed}
+use Rattle.line_codes.specs.Line.{Stand, before, inside, wrong, further, walked, is_behind, tested, is_show, deepest, one_form}
+use Rattle.line_codes.proofs.Walks.{walked_wrong, over_enter, over_other, over_open, over_full, over_close, over_plain, over_any, walk_end, walk_on, walk_spaces, walk_plain, stand_of, part_out, stand_out}
+use Rattle.line_codes.proofs.one_form.Goals as goal
+
+abbrev Known : (s : List ℕ) (most i : ℕ) → Part → Type 0
+Known s most i Before = tokens (drop i s) ≡ tokens s
+Known s most i (Inside n) = most ≡ deepest (tokens s)
+Known s most i Behind = most ≡ deepest (tokens s)
+
+known_out : (s : List ℕ) (i n : ℕ) {r : Part} {most : ℕ} → r ≡ part_out n → most ≡ deepest (tokens s) → Known s most i r
+known_out s i n {most = most} e k = rw e (by (leb n 1))
+  where
+    by : (x : Bool) → Known s most i (cond x Behind (Inside (n - 1)))
+    by true = k
+    by false = k
+
+record Led (s : List ℕ) (part : Part) (most i : ℕ) : Type 0 where
+  within : i ≤ length s
+  walk : walked (deepest (tokens s)) (stand_of part) (drop i s) ≡ walked (deepest (tokens s)) before s
+  deep : Known s most i part
+record Here (s : List ℕ) (part : Part) (most i : ℕ) : Type 0 where
+  led : Led s part most i
+  no_space : i < length s → get_or s i 0 ≡ space → ⊥
+
+module _ (s : List ℕ) (i : ℕ) {j : ℕ} (there : j ≡ i + prefix (of_class 4) (drop i s)) where
+  there_spaces : j ≡ i + spaces (drop i s)
+  there_spaces = stands asked_spaces s i there
+
+  still : (most : ℕ) (part : Part) → Known s most i part → Known s most j part
+  still most Before e = sym (scan_over (λ b. eqb b space) s i j there_spaces tokens (λ b t f. rw (eqb-true b space f) (tokens_space t))) ∙ e
+  still most (Inside n) e = e
+  still most Behind e = e
+
+  passes : (part : Part) (most : ℕ) → j ≤ length s → Led s part most i → Here s part most j
+  passes part most h l =
+      record {
+        led = record { within = h; walk = sym (walk_spaces _ s i (stand_of part) there_spaces) ∙ l.walk; deep = still most part l.deep };
+        no_space = λ g. eqb-false _ space (scan_stop (λ b. eqb b space) s i j there_spaces g);
+      }
+
+pub loop-i-init : goal.loop-i-init
+loop-i-init c =
+    passes _ 0 c.scan-i.ensures.value Before _ c.scan-i.ensures.upper_bound record { within = omega arith; walk = refl; deep = refl }
+
+module _ (a : tie.After-shared-slice-known2 invariant-loop decreases-loop) where
+  abbrev line : List ℕ
+  line = a.before.before.before.before.before.args.s.now
+
+  abbrev place : ℕ
+  place = a.before.before.loop.i
+
+  abbrev byte : ℕ
+  byte = get_or line place 0
+
+  abbrev part : Part
+  part = a.before.before.loop.part
+
+  abbrev limit : ℕ
+  limit = deepest (tokens line)
+
+  -- where the byte leads from a part
+  abbrev Leads : Part → Stand → Type 0
+  Leads q p = further limit (stand_of q) byte ≡ p
+
+  turns : (q : Part) → part ≡ q → {p : Stand} → Leads q p → walked limit p (drop (place + 1) line) ≡ walked limit before line
+  turns q f e =
+      sym (walk_on _ line place (stand_of q) a.before.loop-test.taken e)
+      ∙ subst (λ r. walked limit (stand_of r) (drop place line) ≡ walked limit before line) f a.before.before.loop.inv.led.walk
+
+  fails : (q : Part) → part ≡ q → Leads q wrong → Failed ≡ tested (one_form limit line)
+  fails q f e = rw (← turns q f e, walked_wrong limit (drop (place + 1) line))
+
+  no_space_lem : byte ≡ space → ⊥
+  no_space_lem = a.before.before.loop.inv.no_space a.before.loop-test.taken
+
+  known : (q : Part) → part ≡ q → Known line a.before.before.loop.most place q
+  known q e = subst (Known line a.before.before.loop.most place) e a.before.before.loop.inv.led.deep
+
+  -- the form opens: its first word tells how deep it may be
+  opens : {m : ℕ} → part ≡ Before → byte ≡ 40 → m ≡ deepest (opened ∷ tokens (drop (place + 1) line)) → m ≡ limit
+  opens e f g =
+      let t : tokens (drop place line) ≡ opened ∷ tokens (drop (place + 1) line) = rw (drop_next line place 0 a.before.loop-test.taken, f) (tokens_opening (drop (place + 1) line)) in
+      g ∙ ap deepest (sym t ∙ known Before e)
+
+  one : (q r : Part) → part ≡ q → Leads q (stand_of r) → {new : Part} {most i : ℕ} → new ≡ r → Known line most (place + 1) r → i ≡ place + 1 → (place < i) × Led line new most i
+  one q r d e f k g = rw (f, g) (omega arith, record { within = omega (arith, a.before.loop-test.taken); walk = turns q d e; deep = k })
+
+  -- over bytes that are no brackets
+  plain : (n : ℕ) → part ≡ Inside n → Leads (Inside n) (inside n) → {j : ℕ} → j ≡ place + 1 + prefix (of_class 13) (drop (place + 1) line) → j ≤ length line → {new : Part} {most i : ℕ} → new ≡ Inside n → most ≡ limit → i ≡ j → (place < i) × Led line new most i
+  plain n d e there h f k g =
+      rw (f, g) (omega arith, record { within = h; walk = sym (walk_plain _ line (place + 1) n there) ∙ turns (Inside n) d e; deep = k })
+
+pub returns-then-b-ne40 : goal.returns-then-b-ne40
+returns-then-b-ne40 c =
+    fails a Before c.in-Before.is (over_other (limit a) (byte a) c.if-b-ne40.true (no_space_lem a))
+
+pub returns-then-most-depth : goal.returns-then-most-depth
+returns-then-most-depth c =
+    let e = c.in-Inside.is in
+    fails a (Inside _) e (over_full (limit a) (byte a) c.in-Inside.depth c.if-b-eq40.true (omega (arith, known a (Inside _) e, c.if-most-depth.true)))
+
+pub returns-in-Behind : goal.returns-in-Behind
+returns-in-Behind c =
+    fails a Behind c.in-Behind.is (over_any (limit a) (byte a) (no_space_lem a))
+
+cond_le : (x : Bool) {a b n : ℕ} → a ≤ n → b ≤ n → cond x a b ≤ n
+cond_le true p q = p
+cond_le false p q = q
+
+deepest_fits : (ts : List Token) → deepest ts ≤ 100
+deepest_fits ts = cond_le (is_show ts) (omega arith) (omega arith)
+
+pub overflow_add-part : goal.overflow_add-part
+overflow_add-part c =
+    let d = known k.before.before (Inside _) c.in-Inside.is in
+    let m = deepest_fits (tokens (line k.before.before)) in
+    record { fits = omega (arith, d, m, c.if-most-depth.false) }
+
+arrives : (c : tie.At-match-branch invariant-loop decreases-loop) → (place c.before < c.match.i) × Led (line c.before) c.match.part c.match.most c.match.i
+arrives c =
+    let a = c.before in
+    ⊎_elim
+    (λ w.
+    let e = w.1.given.1 in
+    one a Before (Inside 1) e (over_enter (limit a) (byte a) w.2.left) w.4 (w.5 ∙ opens a e w.2.left w.3.ensures) w.6)
+    (⊎_elim
+    (λ w.
+    let n = w.1.given.0.0 in
+    let e = w.1.given.1 in
+    let d = known a (Inside n) e in
+    let s : n + 1 ≡ suc n = omega arith in
+    one a (Inside n) (Inside (n + 1)) e (rw s (over_open (limit a) (byte a) n w.3.taken (omega (arith, d, w.4.left)))) w.5 (w.6 ∙ d) w.7)
+    (⊎_elim
+    (λ w.
+    let n = w.1.given.0.0 in
+    let e = w.1.given.1 in
+    one a (Inside n) w.5.result e (over_close (limit a) (byte a) n w.4.taken ∙ stand_out n ∙ sym (ap stand_of w.5.ensures)) w.6 (known_out (line a) (place a + 1) n w.5.ensures (w.7 ∙ known a (Inside n) e)) w.8)
+    (λ w.
+    let n = w.1.given.0.0 in
+    let e = w.1.given.1 in
+    plain a n e (over_plain (limit a) (byte a) n w.3.left w.4.left) w.5.ensures.0 w.5.ensures.1 w.6 (w.7 ∙ known a (Inside n) e) w.8)))
+    c.match.branch
+
+pub scan-i-requires-in-loop-i : goal.scan-i-requires-in-loop-i
+scan-i-requires-in-loop-i c = (arrives c).1.within
+
+pub loop-i-smaller : goal.loop-i-smaller
+loop-i-smaller c = omega (arith, (arrives c.before).0, (arrives c.before).1.within, c.scan-i-in-loop-i.ensures.value)
+
+pub loop-i-preserved : goal.loop-i-preserved
+loop-i-preserved c = passes _ _ c.scan-i-in-loop-i.ensures.value _ _ c.scan-i-in-loop-i.ensures.upper_bound (arrives c.before).1
+
+ends : {s : List ℕ} {part : Part} {most i : ℕ} (q : Part) → length s ≤ i → Led s part most i → part ≡ q → tested (is_behind (stand_of q)) ≡ tested (one_form (deepest (tokens s)) s)
+ends {s = s} {part = part} {i = i} q h l f =
+    let w = sym l.walk ∙ walk_end (deepest (tokens s)) s i (stand_of part) h ∙ ap stand_of f in rw w
+
+pub returns-in-Before-part : goal.returns-in-Before-part
+returns-in-Before-part c = ends Before c.loop-i-test.false c.loop-i.invariant.led c.in-Before-part.is
+
+pub returns-in-Inside-part : goal.returns-in-Inside-part
+returns-in-Inside-part c = ends (Inside _) c.loop-i-test.false c.loop-i.invariant.led c.in-Inside-part.is
+
+pub returns-in-Behind-part : goal.returns-in-Behind-part
+returns-in-Behind-part c = ends Behind c.loop-i-test.false c.loop-i.invariant.led c.in-Behind-part.is

@@ -1,0 +1,15 @@
+-- `append_count`: a space and a figure that is not below zero, behind what is written.
+use mathlib.Core.Path.{◌∙◌}
+use mathlib.Core.List.{[], ◌∷◌}
+use native.Mathlib.Omega.{arith}
+use Rattle.reply.specs.Written.{decimal}
+use Rattle.reply.proofs.Writing.{into_into}
+use Rattle.reply.proofs.append_count.Goals as goal
+
+pub returns : goal.returns
+returns c =
+    let append = c.append-a in
+    let h = c.append_decimal.ensures in
+    let g = append.ensures in
+    let i = into_into c.args.at (32 ∷ []) (decimal c.args.n) c.args.out.now append.result (omega arith) (omega (arith, c.requires)) in
+    record { value = omega (arith, h.0); out_after = h.1 ∙ rw g.1 i }

@@ -1,0 +1,11 @@
+-- `append_decimal`: a figure that is not below zero, likewise.
+use native.Mathlib.Omega.{arith}
+use Rattle.reply.specs.Written.{decimal}
+use Rattle.reply.proofs.Writing.{lent}
+use Rattle.reply.proofs.append_decimal.Goals as goal
+
+pub returns : goal.returns
+returns c =
+    let args = c.args in
+    let e = c.put_decimal.ensures in
+    record { value = omega arith; out_after = lent args.out.now args.at (decimal args.n) _ (omega arith) e.1 }

@@ -1,0 +1,21 @@
+-- `append_field`: a space and a figure behind what is written.
+use mathlib.Core.Path.{◌∙◌}
+use mathlib.Core.List.{[], ◌∷◌}
+use native.Mathlib.Omega.{arith}
+use mir.Facts.{to_z-of_z}
+use mir.Syntax.{w64}
+use Rattle.reply.specs.Written.{figure}
+use Rattle.reply.proofs.Writing.{into_into}
+use Rattle.reply.proofs.append_field.Goals as goal
+
+pub append_figure-requires : goal.append_figure-requires
+append_figure-requires c =
+    rw (to_z-of_z {w = w64} {z = c.args.z} c.ranges.z) (omega (arith, c.requires))
+
+pub returns : goal.returns
+returns c =
+    let append = c.append-a in
+    let h = rw (to_z-of_z {w = w64} {z = c.args.z} c.ranges.z) at c.append_figure.ensures in
+    let g = append.ensures in
+    let i = into_into c.args.at (32 ∷ []) (figure c.args.z) c.args.out.now append.result (omega arith) (omega (arith, c.requires)) in
+    record { value = omega (arith, h.0); out_after = h.1 ∙ rw g.1 i }
