@@ -2,7 +2,7 @@
 use mathlib.Core.Path.{◌≡◌, refl, ap}
 use mathlib.Core.Bool.{Bool, true, false, cond}
 use mathlib.Core.List.{List, [], ◌∷◌}
-use Prim.Native.Nat.{ℕ, ◌+◌, ◌*◌, ◌^◌, ◌≤◌}
+use Prim.Native.Nat.{ℕ, ◌+◌, ◌*◌, ◌-◌, ◌^◌, ◌≤◌}
 use native.Mathlib.Omega.{arith}
 use native.Mathlib.Nat.{mul-le-mul, mul-le-mul_left, zero-mul}
 use lib.ListN.{length, length-take}
@@ -22,6 +22,8 @@ use Rattle.grain.specs.declared.Shifted.TheVariants.{Moment, NoFit}
 use Rattle.grain.specs.Section.{Kept, kept_from, kept_of, high_moment, section_moment}
 use Rattle.grain.specs.Slack.{slack_moment}
 use Rattle.grain.specs.Sum.{part_section, part_moment, percentage, hold_moment, weight_moment}
+use Rattle.cells.specs.Depth.{cell_area}
+use Rattle.cells.specs.Sizes.{cell_most}
 use Rattle.grain.proofs.Sections.{areas_le, kept_sum}
 use Rattle.grain.proofs.Walks.{part_within}
 
@@ -39,7 +41,7 @@ kept_widths : (e : ℕ) (cs : List Cell) → sum_of (λ k. k.width) (kept_from e
 unfolding sum_of kept_from
 kept_widths e [] = refl
 kept_widths e (c ∷ []) = refl
-kept_widths e (c ∷ d ∷ cs) = ap (λ (n : ℕ). cell_width c + n) (kept_widths _ (d ∷ cs))
+kept_widths e (c ∷ d ∷ cs) = ap (λ (n : ℕ). cell_width c + n) (kept_widths (e + (cell_area c - cell_most c)) (d ∷ cs))
 
 section_le : (cs : List Cell) → all cell_limits cs ≡ true → sum_of cell_width cs ≤ 40000 → section_moment cs ≤ 2 ^ 44
 unfolding section_moment high_moment kept_from

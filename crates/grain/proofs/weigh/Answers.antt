@@ -29,7 +29,6 @@ returns-in_default c =
 pub overflow_mul-sum : goal.overflow_mul-sum
 unfolding parts_answer
 overflow_mul-sum c =
-    let sum-given = c.sum-1.given in
     let parts-moment = c.parts_moment in
     let if1 = c.if-not-hold_limits in
     let hold-limits = c.hold_limits in
@@ -37,14 +36,13 @@ overflow_mul-sum c =
     let h = args.h in
     let good : hold_limits h ≡ true = sym hold-limits.ensures ∙ if1.false in
     let w = hold_within h good in
-    let t = moment_of_lem (hold_fits h) (sum_of (part_moment h.head.mode) (parts_of h)) sum-given.0.0 (sym sum-given.1 ∙ parts-moment.ensures) in
-    let s : sum-given.0.0 ≤ 2 ^ 33 = omega (arith, parts_le h w, t.1) in
+    let t = moment_of_lem (hold_fits h) (sum_of (part_moment h.head.mode) (parts_of h)) c.in-Moment.sum (sym c.in-Moment.is ∙ parts-moment.ensures) in
+    let s : c.in-Moment.sum ≤ 2 ^ 33 = omega (arith, parts_le h w, t.1) in
     omega (arith, mul-le-mul s c.percentage_of.ensures.upper_bound, w.factor.low, w.factor.high)
 
 pub divide_up-moment-requires : goal.divide_up-moment-requires
 unfolding parts_answer
 divide_up-moment-requires c =
-    let sum-given = c.sum-1.given in
     let parts-moment = c.parts_moment in
     let if1 = c.if-not-hold_limits in
     let hold-limits = c.hold_limits in
@@ -52,14 +50,13 @@ divide_up-moment-requires c =
     let h = args.h in
     let good : hold_limits h ≡ true = sym hold-limits.ensures ∙ if1.false in
     let w = hold_within h good in
-    let t = moment_of_lem (hold_fits h) (sum_of (part_moment h.head.mode) (parts_of h)) sum-given.0.0 (sym sum-given.1 ∙ parts-moment.ensures) in
-    let s : sum-given.0.0 ≤ 2 ^ 33 = omega (arith, parts_le h w, t.1) in
+    let t = moment_of_lem (hold_fits h) (sum_of (part_moment h.head.mode) (parts_of h)) c.in-Moment.sum (sym c.in-Moment.is ∙ parts-moment.ensures) in
+    let s : c.in-Moment.sum ≤ 2 ^ 33 = omega (arith, parts_le h w, t.1) in
     omega (arith, mul-le-mul s c.percentage_of.ensures.upper_bound, w.factor.low, w.factor.high)
 
 pub overflow_mul-moment : goal.overflow_mul-moment
 unfolding parts_answer
 overflow_mul-moment c =
-    let sum-given = c.sum-1.given in
     let parts-moment = c.parts_moment in
     let if1 = c.if-not-hold_limits in
     let hold-limits = c.hold_limits in
@@ -67,14 +64,13 @@ overflow_mul-moment c =
     let h = args.h in
     let good : hold_limits h ≡ true = sym hold-limits.ensures ∙ if1.false in
     let w = hold_within h good in
-    let t = moment_of_lem (hold_fits h) (sum_of (part_moment h.head.mode) (parts_of h)) sum-given.0.0 (sym sum-given.1 ∙ parts-moment.ensures) in
-    let s : sum-given.0.0 ≤ 2 ^ 33 = omega (arith, parts_le h w, t.1) in
+    let t = moment_of_lem (hold_fits h) (sum_of (part_moment h.head.mode) (parts_of h)) c.in-Moment.sum (sym c.in-Moment.is ∙ parts-moment.ensures) in
+    let s : c.in-Moment.sum ≤ 2 ^ 33 = omega (arith, parts_le h w, t.1) in
     omega (arith, mul-le-mul s c.percentage_of.ensures.upper_bound, w.factor.low, w.factor.high)
 
 pub divide_up-requires : goal.divide_up-requires
 unfolding parts_answer
 divide_up-requires c =
-    let sum-given = c.sum-1.given in
     let parts-moment = c.parts_moment in
     let if1 = c.if-not-hold_limits in
     let hold-limits = c.hold_limits in
@@ -82,14 +78,13 @@ divide_up-requires c =
     let h = args.h in
     let good : hold_limits h ≡ true = sym hold-limits.ensures ∙ if1.false in
     let w = hold_within h good in
-    let t = moment_of_lem (hold_fits h) (sum_of (part_moment h.head.mode) (parts_of h)) sum-given.0.0 (sym sum-given.1 ∙ parts-moment.ensures) in
-    let s : sum-given.0.0 ≤ 2 ^ 33 = omega (arith, parts_le h w, t.1) in
+    let t = moment_of_lem (hold_fits h) (sum_of (part_moment h.head.mode) (parts_of h)) c.in-Moment.sum (sym c.in-Moment.is ∙ parts-moment.ensures) in
+    let s : c.in-Moment.sum ≤ 2 ^ 33 = omega (arith, parts_le h w, t.1) in
     omega (arith, mul-le-mul s c.percentage_of.ensures.upper_bound, w.factor.low, w.factor.high)
 
 pub returns : goal.returns
 unfolding weighed_of weight_moment hold_moment parts_answer
 returns c =
-    let sum-given = c.sum-1.given in
     let parts-moment = c.parts_moment in
     let if1 = c.if-not-hold_limits in
     let hold-limits = c.hold_limits in
@@ -97,6 +92,6 @@ returns c =
     let h = args.h in
     let good : hold_limits h ≡ true = sym hold-limits.ensures ∙ if1.false in
     let w = hold_within h good in
-    let t = moment_of_lem (hold_fits h) (sum_of (part_moment h.head.mode) (parts_of h)) sum-given.0.0 (sym sum-given.1 ∙ parts-moment.ensures) in
-    let s : sum-given.0.0 ≤ 2 ^ 33 = omega (arith, parts_le h w, t.1) in
+    let t = moment_of_lem (hold_fits h) (sum_of (part_moment h.head.mode) (parts_of h)) c.in-Moment.sum (sym c.in-Moment.is ∙ parts-moment.ensures) in
+    let s : c.in-Moment.sum ≤ 2 ^ 33 = omega (arith, parts_le h w, t.1) in
     rw (good, t.0, c.divide_up.ensures, c.divide_up-moment.ensures, c.percentage_of.ensures.value, t.1) refl

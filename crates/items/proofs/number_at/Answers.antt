@@ -24,8 +24,7 @@ returns-in_default-number_of c =
 pub returns : goal.returns
 unfolding number?
 returns c =
-    let a-given = c.a-1.given in
     let span-at = c.span_at in
-    let n = rw a-given.1 at span-at.ensures in
+    let n = rw c.in-From.is at span-at.ensures in
     let f = ap number_of (sym c.run_of.ensures) ∙ sym c.number_of.ensures ∙ c.in-Is.is in
     (rw (n.0.0, f), n.0.1)

@@ -19,7 +19,7 @@ bounds-out-0 t c =
     let k = c.args.k in
     let n = c.args.n in
     let e = digits_one k n c.if-k-eq0.false c.if-n-lt10.true in
-    omega (arith, ap length e, c.requires.1)
+    omega (arith, ap length e, c.requires)
 
 pub shape_of-out-then-n-lt10 : goal.shape_of-out-then-n-lt10
 shape_of-out-then-n-lt10 t c =
@@ -30,14 +30,14 @@ returns-then-n-lt10 t c =
     let k = c.args.k in
     let n = c.args.n in
     let e = digits_one k n c.if-k-eq0.false c.if-n-lt10.true in
-    record { value = rw e; out_after = rw e (over_one _ _ (omega (arith, ap length e, c.requires.1))) }
+    record { value = rw e; out_after = rw e (over_one _ _ (omega (arith, ap length e, c.requires))) }
 
 pub put_digits-at-requires : goal.put_digits-at-requires
 put_digits-at-requires t c =
     let k = c.args.k in
     let n = c.args.n in
     let e = digits_more k n c.if-k-eq0.false c.if-n-lt10.false in
-    (omega (arith, c.requires.0), omega (arith, ap length e, length-append (digits (k - 1) (n / 10)) ((48 + n % 10) ∷ []), c.requires.1))
+    omega (arith, ap length e, length-append (digits (k - 1) (n / 10)) ((48 + n % 10) ∷ []), c.requires)
 
 pub bounds-out-at : goal.bounds-out-at
 bounds-out-at t c =
@@ -48,7 +48,7 @@ bounds-out-at t c =
     let m = length-append d ((48 + n % 10) ∷ []) in
     let q = c.put_digits-at.ensures.value in
     let g = ap length e in
-    omega (arith, c.put_digits-at.auto.0, c.requires.1)
+    omega (arith, c.put_digits-at.auto.out, c.requires)
 
 pub overflow_add-result : goal.overflow_add-result
 overflow_add-result t c =
@@ -59,11 +59,11 @@ overflow_add-result t c =
     let m = length-append d ((48 + n % 10) ∷ []) in
     let q = c.put_digits-at.ensures.value in
     let g = ap length e in
-    omega (arith, c.requires.1)
+    omega (arith, c.requires)
 
 pub shape_of-out : goal.shape_of-out
 shape_of-out t c =
-    simp length-set c.put_digits-at.auto.0
+    simp length-set c.put_digits-at.auto.out
 
 pub returns : goal.returns
 returns t c =
@@ -75,25 +75,5 @@ returns t c =
     let q = c.put_digits-at.ensures.value in
     let g = ap length e in
     let o = c.args.out.now in
-    record { value = omega arith; out_after = rw (e, c.put_digits-at.ensures.out_after) (over_snoc d o c.put_digits-at.result (48 + n % 10) (sym q) (omega (arith, c.requires.1))) }
+    record { value = omega arith; out_after = rw (e, c.put_digits-at.ensures.out_after) (over_snoc d o c.put_digits-at.result (48 + n % 10) (sym q) (omega (arith, c.requires))) }
 
-+put-digits-spec = close μ-put-digits λ t. put-digits-lts.spec (
-  put_digits_below t,
-  put-digits.Post,
-)
-    (put_digits_at t)
-    put-digits.Post
-    (put_digits_returns t)
-    (put_digits_cast_out t)
-    (put_digits_add_out t)
-    (put_digits_slice_write_out t)
-    (put_digits_same_length t)
-    (put_digits_returns_2 t)
-    (put_digits_sub_put_digits t)
-    (put_digits_put_digits_requires t)
-    (put_digits_cast_out_2 t)
-    (put_digits_add_out_2 t)
-    (put_digits_slice_write_out_2 t)
-    (put_digits_add_result t)
-    (put_digits_same_length_2 t)
-    (put_digits_returns_3 t)

@@ -11,4 +11,4 @@ use Prim.Native.Nat.{ℕ, ◌<◌}
 use Rattle.reply.proofs.+put_digits.Given as goal
 
 abbrev pub decreases-put_digits : goal.decreases-put_digits
-decreases-put_digits l = l.n.1.0
+decreases-put_digits l = l.k

@@ -7,4 +7,4 @@ pub returns : goal.returns
 returns c =
     let args = c.args in
     let e = c.put.ensures in
-    record { value = omega arith; out_after = lent args.out.now args.at args.w.now _ (omega arith) e.1 }
+    record { value = omega arith; out_after = lent args.out.now args.at args.w.now _ (omega arith) e.out_after }

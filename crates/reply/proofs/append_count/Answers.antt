@@ -12,4 +12,4 @@ returns c =
     let h = c.append_decimal.ensures in
     let g = append.ensures in
     let i = into_into c.args.at (32 ∷ []) (decimal c.args.n) c.args.out.now append.result (omega arith) (omega (arith, c.requires)) in
-    record { value = omega (arith, h.0); out_after = h.1 ∙ rw g.1 i }
+    record { value = omega (arith, h.value); out_after = h.out_after ∙ rw g.out_after i }

@@ -8,4 +8,4 @@ pub returns : goal.returns
 returns c =
     let args = c.args in
     let e = c.put_decimal.ensures in
-    record { value = omega arith; out_after = lent args.out.now args.at (decimal args.n) _ (omega arith) e.1 }
+    record { value = omega arith; out_after = lent args.out.now args.at (decimal args.n) _ (omega arith) e.out_after }

@@ -46,7 +46,7 @@ returns-then-is_below c =
     let g = append.ensures in
     let h = rw m at c.append_decimal.ensures in
     let i = into_into c.args.at (45 ∷ []) (decimal (minus z)) c.args.out.now append.result (omega arith) (omega (arith, ap length e, c.requires)) in
-    record { value = rw e (omega (arith, h.0)); out_after = h.1 ∙ rw (e, g.1) i }
+    record { value = rw e (omega (arith, h.value)); out_after = h.out_after ∙ rw (e, g.out_after) i }
 
 pub returns-else-is_below : goal.returns-else-is_below
 returns-else-is_below c =
@@ -55,4 +55,4 @@ returns-else-is_below c =
     let t = ap (λ (y : ℤ). lt_z y (pos 0)) (sym (to_z-of_z {w = w64} {z = z} c.ranges.z)) ∙ sym is_below.ensures ∙ c.if-is_below.false in
     let m = c.above_zero.ensures ∙ ap plus (to_z-of_z {w = w64} {z = z} c.ranges.z) in
     let h = rw m at c.append_decimal-else-is_below.ensures in
-    rw (figure_above z t) h
+    rw (figure_above z t) (record { value = h.value; out_after = h.out_after })

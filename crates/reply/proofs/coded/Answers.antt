@@ -16,7 +16,7 @@ returns c =
     let code = c.args.code in
     let p = c.requires in
     let n = length-append h (two_digits code) in
-    let a = first h l _ _ put.ensures in
-    let d = more h (two_digits code) l _ _ _ _ a append-code.ensures (omega arith) in
-    let e = more (h ++ two_digits code) tail l _ _ _ _ d c.append.ensures (omega arith) in
+    let a = first h l _ _ (put.ensures.value, put.ensures.out_after) in
+    let d = more h (two_digits code) l _ _ _ _ a (append-code.ensures.value, append-code.ensures.out_after) (omega arith) in
+    let e = more (h ++ two_digits code) tail l _ _ _ _ d (c.append.ensures.value, c.append.ensures.out_after) (omega arith) in
     record { value = e.place; out_after = e.text }

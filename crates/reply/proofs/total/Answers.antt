@@ -30,7 +30,7 @@ returns c =
     let n : length v2 ≡ length v1 + suc (length (decimal w)) = length-append v1 (count w) in
     let p = c.requires in
     let d = length_digits 20 w in
-    let s1 = first v1 l _ _ put.ensures in
-    let s2 = more_field v1 (decimal w) l _ _ _ _ s1 append-count.ensures (omega arith) in
-    let s3 = more v2 tail l _ _ _ _ s2 c.append.ensures (omega arith) in
+    let s1 = first v1 l _ _ (put.ensures.value, put.ensures.out_after) in
+    let s2 = more_field v1 (decimal w) l _ _ _ _ s1 (append-count.ensures.value, append-count.ensures.out_after) (omega arith) in
+    let s3 = more v2 tail l _ _ _ _ s2 (c.append.ensures.value, c.append.ensures.out_after) (omega arith) in
     record { value = s3.place; out_after = s3.text }

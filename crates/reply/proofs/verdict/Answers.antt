@@ -68,11 +68,11 @@ returns c =
     let p = c.requires.0 in
     let e3 = rw (to_z-of_z {w = w64} {z = a.gm} c.ranges.gm) at append-field.ensures in
     let e4 = rw (to_z-of_z {w = w64} {z = a.diff} c.ranges.diff) at append-field2.ensures in
-    let s1 = first v1 l _ _ put.ensures in
-    let s2 = more v1 (two_digits a.code) l _ _ _ _ s1 append-code.ensures (omega arith) in
-    let s3 = more_field v2 (figure a.gm) l _ _ _ _ s2 e3 (omega arith) in
-    let s4 = more_field v3 (figure a.diff) l _ _ _ _ s3 e4 (omega arith) in
-    let s5 = more_field v4 (decimal a.upper) l _ _ _ _ s4 append-count.ensures (omega arith) in
-    let s6 = more_field v5 (decimal a.area) l _ _ _ _ s5 append-count2.ensures (omega arith) in
-    let s7 = more v6 tail l _ _ _ _ s6 c.append.ensures (omega arith) in
+    let s1 = first v1 l _ _ (put.ensures.value, put.ensures.out_after) in
+    let s2 = more v1 (two_digits a.code) l _ _ _ _ s1 (append-code.ensures.value, append-code.ensures.out_after) (omega arith) in
+    let s3 = more_field v2 (figure a.gm) l _ _ _ _ s2 (e3.value, e3.out_after) (omega arith) in
+    let s4 = more_field v3 (figure a.diff) l _ _ _ _ s3 (e4.value, e4.out_after) (omega arith) in
+    let s5 = more_field v4 (decimal a.upper) l _ _ _ _ s4 (append-count.ensures.value, append-count.ensures.out_after) (omega arith) in
+    let s6 = more_field v5 (decimal a.area) l _ _ _ _ s5 (append-count2.ensures.value, append-count2.ensures.out_after) (omega arith) in
+    let s7 = more v6 tail l _ _ _ _ s6 (c.append.ensures.value, c.append.ensures.out_after) (omega arith) in
     record { value = s7.place; out_after = s7.text }
