@@ -1,0 +1,13 @@
+-- `spell`: the tokens of a line in the one spelling, over the front of a buffer: token by token, with the space in front of each.
+use lib.ListN.{length, drop}
+use borrow.Author.Rules.{rules}
+use Rattle.text.specs.Token.{opened, closed, run, tokens}
+use Rattle.text.proofs.Runs.{next_by}
+use Rattle.spelling.proofs.Walk.{Standing, standing_first, standing_long, standing_ends, standing_less, standing_room, standing_next}
+use Rattle.spelling.proofs.spell.Given as goal
+
+abbrev pub invariant-loop-q : goal.invariant-loop-q
+invariant-loop-q l = Standing l.s l.initial.out l.w l.ended w ended
+
+abbrev pub decreases-loop-q : goal.decreases-loop-q
+decreases-loop-q l = length (tokens (drop l.ended l.s))

@@ -1,0 +1,14 @@
+-- `stretch_of`: the stretch in which the angle x lies.
+use borrow.Author.Rules.{rules}
+use mathlib.Core.Path.{◌≡◌, sym, ◌∙◌}
+use Prim.Native.Nat.{◌≤◌}
+use native.Mathlib.Omega.{arith}
+use Rattle.stability.specs.Verdict.{angles_below, stretch_of}
+use Rattle.stability.proofs.Stretch.{below_found, below_next, below_none}
+use Rattle.stability.proofs.stretch_of.Given as goal
+
+abbrev pub invariant-loop-n : goal.invariant-loop-n
+invariant-loop-n l = (l.n ≤ 8) × (angles_below l.n l.x ≡ stretch_of l.x)
+
+abbrev pub decreases-loop-n : goal.decreases-loop-n
+decreases-loop-n l = l.n
