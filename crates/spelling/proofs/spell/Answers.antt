@@ -65,4 +65,5 @@ shape_of-out-in-End c = standing_long c.loop-q.invariant
 pub returns-in-End : goal.returns-in-End
 returns-in-End c =
     let n = next_by _ _ c.next_at.ensures c.in-End.is in
-    standing_ends c.loop-q.invariant n
+    let r = standing_ends c.loop-q.invariant n in
+    record { value = r.0; out_after = r.1 }

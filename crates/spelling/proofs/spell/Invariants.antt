@@ -7,7 +7,7 @@ use Rattle.spelling.proofs.Walk.{Standing, standing_first, standing_long, standi
 use Rattle.spelling.proofs.spell.Given as goal
 
 abbrev pub invariant-loop-q : goal.invariant-loop-q
-invariant-loop-q l = Standing l.s l.initial.out l.w l.ended w ended
+invariant-loop-q l = Standing l.s l.initial.out l.out l.p l.w l.ended
 
 abbrev pub decreases-loop-q : goal.decreases-loop-q
-decreases-loop-q l = length (tokens (drop l.ended l.s))
+decreases-loop-q l = length (tokens (drop l.p l.s))
