@@ -1,0 +1,13 @@
+-- `rule_named`: the word of a rule.
+use Rattle.items.proofs.Words.{named_here, named_past, named_none}
+use Rattle.forms.proofs.rule_named.Goals as goal
+
+pub returns-then-same : goal.returns-then-same
+returns-then-same c = named_here _ _ _ _ _ _ c.same.ensures c.if-same.true
+
+pub returns-then-same-2 : goal.returns-then-same-2
+returns-then-same-2 c = named_past _ _ _ _ _ _ c.same.ensures c.if-same.false _ (named_here _ _ _ _ _ _ c.same-2.ensures c.if-same-2.true)
+
+pub returns : goal.returns
+returns c =
+    named_past _ _ _ _ _ _ c.same.ensures c.if-same.false _ (named_none _ _ _ _ _ c.same-2.ensures c.if-same-2.false)
