@@ -1,5 +1,6 @@
 // GM, righting and heeling arms, and DIFF at the ten angles.
 #![tactic(auto)]
+
 ghost use Rattle.std.specs.Prelude.{◌≡◌, ◌+◌, ◌*◌, ◌/◌, ◌<◌, ◌≤◌, ◌^◌};
 ghost use Rattle.sign.specs.Sign.{plus, minus};
 ghost use Rattle.whole.specs.Divide.{ceil_div};

@@ -1,5 +1,6 @@
 // A partly filled part with a longitudinal board along some of its length: section moment × length, in mm⁴.
 #![tactic(auto)]
+
 ghost use Rattle.std.specs.Prelude.{◌≡◌, ◌+◌, ◌≤◌};
 ghost use Rattle.boards.specs.Split.{deduction, effective_length, beside_board, two_stretches, split_volume};
 

@@ -1,5 +1,6 @@
 // The cells of a section: void depth, void area, and the most that a cell can hold.
 #![tactic(auto)]
+
 ghost use Rattle.std.specs.Prelude.{◌≡◌, ◌<◌, ◌^◌, max};
 ghost use Rattle.whole.specs.Divide.{ceil_div};
 ghost use Rattle.cells.specs.Depth.{standard_depth, wing_depth, cell_depth};

@@ -1,5 +1,6 @@
 // The list of columns: what it answers to one more, the list with it, and the two columns around a displacement.
 #![tactic(auto)]
+
 ghost use Rattle.std.specs.Prelude.{◌≡◌, ◌&&◌, ◌<◌, leb};
 ghost use Rattle.record.specs.Held.{held};
 ghost use Rattle.columns.specs.Columns.{column_answer, in_order, with_column};

@@ -1,5 +1,6 @@
 // The condition that the panel keeps.
 #![tactic(auto)]
+
 ghost use Rattle.std.specs.Prelude.{◌≡◌};
 ghost use Rattle.condition.specs.Condition.{empty};
 

@@ -1,5 +1,6 @@
 // The effect of a request: what it puts into the condition.
 #![tactic(auto)]
+
 ghost use Rattle.std.specs.Prelude.{◌≡◌};
 ghost use Rattle.effects.specs.Effect.{effect_of};
 

@@ -1,5 +1,6 @@
 // Heeling moments of shifted grain: section, part, hold and weight moment.
 #![tactic(auto)]
+
 ghost use Rattle.std.specs.Prelude.{◌≡◌, true, ◌+◌, ◌/◌, ◌<◌, ◌≤◌, ◌^◌};
 ghost use Rattle.record.specs.Held.{cells_of};
 ghost use Rattle.limits.specs.Limits.{section_limits, part_limits, hold_limits};

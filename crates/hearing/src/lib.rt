@@ -1,5 +1,6 @@
 // What is heard of a line: the code of the tests of the whole line, or its request.
 #![tactic(auto)]
+
 ghost use Rattle.std.specs.Prelude.{◌≡◌};
 ghost use Rattle.hearing.specs.Hearing.{heard_of};
 

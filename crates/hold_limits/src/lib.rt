@@ -1,5 +1,6 @@
 // The limits of a hold, its parts and its cells (code 20).
 #![tactic(auto)]
+
 ghost use Rattle.std.specs.Prelude.{◌≡◌, ◌≤◌, ◌<◌};
 ghost use Rattle.whole.specs.Lists.{within, all, sum_of};
 ghost use Rattle.record.specs.Held.{cell_width, cells_of, parts_of};

@@ -1,5 +1,6 @@
 // The lines of an input, and what the two limits say. Nothing here reads or writes.
 #![tactic(auto)]
+
 ghost use Rattle.std.specs.Prelude.{◌≡◌, ◌++◌, ◌+◌, ◌≤◌, ◌<◌, length, take, drop};
 ghost use Rattle.input.specs.Lines.{most_lines, most_bytes, line_length};
 ghost use Rattle.input.specs.Limits.{Asked, ToldIs};

@@ -1,5 +1,6 @@
 // Brackets, runs and numbers of a line, each from a place to the place behind it.
 #![tactic(auto)]
+
 ghost use Rattle.std.specs.Prelude.{◌≡◌, map, ◌≤◌, length, take, drop};
 ghost use Rattle.text.specs.Token.{tokens};
 ghost use Rattle.items.specs.Grammar.{open?, close?, run?, head?, number?, last_numbers?};

@@ -1,5 +1,6 @@
 // Judge: the codes 30 to 34, and the verdict.
 #![tactic(auto)]
+
 ghost use Rattle.std.specs.Prelude.{◌≡◌, ◌&&◌, length, leb};
 ghost use Rattle.record.specs.Held.{held};
 ghost use Rattle.columns.specs.Columns.{in_order};

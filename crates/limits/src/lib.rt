@@ -1,5 +1,6 @@
 // The limits of a record's numbers (code 20).
 #![tactic(auto)]
+
 ghost use Rattle.std.specs.Prelude.{◌≡◌, ◌<◌};
 ghost use Rattle.whole.specs.Lists.{within, all};
 ghost use Rattle.limits.specs.Limits.{edge, displacement, rise, ship_limits, load_limits, column_limits, place_limits, item_limits};

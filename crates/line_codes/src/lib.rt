@@ -1,5 +1,6 @@
 // The tests of a whole line: codes 10 to 13.
 #![tactic(auto)]
+
 ghost use Rattle.std.specs.Prelude.{◌≡◌, cond, ◌∷◌, ◌-◌, ◌≤◌, leb, length, drop};
 ghost use Rattle.whole.specs.Lists.{all};
 ghost use Rattle.text.specs.Token.{allowed, opened, tokens};

@@ -1,5 +1,6 @@
 // Lines taken from blocks of input, with their replies behind those that wait. Nothing here reads or writes.
 #![tactic(auto)]
+
 ghost use Rattle.std.specs.Prelude.{◌≡◌, ◌+◌, ◌≤◌, ◌<◌, length, take};
 ghost use Rattle.hearing.specs.Hearing.{heard_of};
 ghost use Rattle.panel.specs.Step.{step_of};

@@ -1,5 +1,6 @@
 // The code of each operation but judge.
 #![tactic(auto)]
+
 ghost use Rattle.std.specs.Prelude.{◌≡◌, cond, ◌-◌, ◌≤◌, get_or};
 ghost use Rattle.record.specs.Filler.{no_hold};
 ghost use Rattle.columns.specs.Columns.{added_code};

@@ -1,5 +1,6 @@
 // The reply to what is heard of a line, and the step of one line.
 #![tactic(auto)]
+
 ghost use Rattle.std.specs.Prelude.{◌≡◌, ◌≤◌, length};
 ghost use Rattle.text.specs.Token.{tokens};
 ghost use Rattle.forms.specs.declared.Kind.TheVariants.{ShowLine};

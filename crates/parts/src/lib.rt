@@ -1,5 +1,6 @@
 // Cells and parts of a hold's form, each from a place to the place behind it.
 #![tactic(auto)]
+
 ghost use Rattle.std.specs.Prelude.{◌≡◌, map, ◌≤◌, length, drop};
 ghost use Rattle.text.specs.Token.{tokens};
 ghost use Rattle.record.specs.Filler.{no_slot, no_part};

@@ -1,6 +1,7 @@
 // The panel on document 01's readings that are not in the proved set: `stdin` has their lines, and each judge's reply in `stdout`
 // shows one of them (tests/readings.py says which).
 #![tactic(auto)]
+
 fn main() {
     service::serve(input::most_lines(), input::most_bytes());
 }

@@ -1,5 +1,6 @@
 // The records of a loading condition, and what stands in their unused places.
 #![tactic(auto)]
+
 ghost use Rattle.std.specs.Prelude.{◌≡◌};
 ghost use Rattle.record.specs.Held.{cell_width, cell_lip};
 ghost use Rattle.record.specs.Filler.{no_slot, no_part, no_hold, no_column, no_columns, no_sums};

@@ -1,5 +1,6 @@
 // Replies, written into what is left of a lent buffer.
 #![tactic(auto)]
+
 ghost use Rattle.std.specs.Prelude.{◌≡◌, ◌∷◌, ◌+◌, ◌≤◌, length};
 ghost use Rattle.reply.specs.Written.{over, into, digits, decimal, figure, two_digits};
 ghost use Rattle.reply.specs.Replies.{coded_reply, answer_reply, refusal_reply, verdict_reply, total_reply};

@@ -1,5 +1,6 @@
 // The shapes of lines: which form a line is or shows, and its record (code 14).
 #![tactic(auto)]
+
 ghost use Rattle.std.specs.Prelude.{◌≡◌, ◌≤◌, length, drop};
 ghost use Rattle.text.specs.Token.{tokens};
 ghost use Rattle.items.specs.Carried.{carry};

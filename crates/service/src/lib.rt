@@ -1,5 +1,6 @@
 // Lines from standard input to the panel, and its replies to standard output: `serve` alone reads and writes.
 #![tactic(auto)]
+
 ghost use Rattle.std.specs.Prelude.{◌≡◌, [], ◌≤◌, length};
 ghost use Rattle.lines.specs.Taking.{Stands};
 

@@ -1,5 +1,6 @@
 // The reply to a show line.
 #![tactic(auto)]
+
 ghost use Rattle.std.specs.Prelude.{◌≡◌, ◌≤◌, length};
 ghost use Rattle.text.specs.Token.{tokens};
 ghost use Rattle.reply.specs.Written.{over};

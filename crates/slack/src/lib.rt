@@ -1,5 +1,6 @@
 // Partly filled sections under a deck: the section moment in mm³, from breadth, void and grain in mm.
 #![tactic(auto)]
+
 ghost use Rattle.std.specs.Prelude.{◌≡◌, ◌+◌, ◌*◌, ◌<◌, ◌≤◌, ◌^◌};
 ghost use Rattle.whole.specs.Divide.{ceil_div};
 ghost use Rattle.slack.specs.Deck.{uncut_moment, base, triangle_moment, neither_moment, deck_moment};

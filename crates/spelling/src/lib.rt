@@ -1,5 +1,6 @@
 // A line in its one spelling: single spaces between items, and nowhere else.
 #![tactic(auto)]
+
 ghost use Rattle.std.specs.Prelude.{◌≡◌, ◌++◌, ◌+◌, ◌≤◌, length};
 ghost use Rattle.text.specs.Token.{tokens};
 ghost use Rattle.reply.specs.Written.{over, into};

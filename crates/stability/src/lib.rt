@@ -1,5 +1,6 @@
 // The verdict: DIFF between the ten angles, UPPER, and the first test that fails.
 #![tactic(auto)]
+
 ghost use Rattle.std.specs.Prelude.{◌≡◌, ◌&&◌, leb, ltb, ◌<◌, ◌≤◌};
 ghost use Rattle.arms.specs.Angles.{angle};
 ghost use Rattle.arms.specs.Judgeable.{Judgeable};

@@ -1,5 +1,6 @@
 // How a record is put into the condition, of what was answered with 00.
 #![tactic(auto)]
+
 ghost use Rattle.std.specs.Prelude.{◌≡◌, cond, length, leb};
 ghost use Rattle.record.specs.Held.{held};
 ghost use Rattle.limits.specs.Limits.{place_limits};

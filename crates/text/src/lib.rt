@@ -1,5 +1,6 @@
 // A line's bytes, brackets, runs and numbers.
 #![tactic(auto)]
+
 ghost use Rattle.std.specs.Prelude.{◌≡◌, ◌+◌, ◌-◌, ◌≤◌, length, take, drop};
 ghost use Rattle.whole.specs.Lists.{within};
 ghost use Rattle.text.specs.Token.{is_digit, number_of};

@@ -1,5 +1,6 @@
 // The weight moment of all holds, kept in one stored figure.
 #![tactic(auto)]
+
 ghost use Rattle.std.specs.Prelude.{◌≡◌};
 ghost use Rattle.grain.specs.Sum.{weighed_moment};
 ghost use Rattle.total.specs.Total.{exchanged};

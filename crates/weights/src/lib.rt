@@ -1,5 +1,6 @@
 // The sums of the weight items that were taken, and the load that they make.
 #![tactic(auto)]
+
 ghost use Rattle.std.specs.Prelude.{◌≡◌, cond};
 ghost use Rattle.weights.specs.Weights.{has_room, with_item, makes_load, weighed_kg, weighed_load};
 

@@ -123,26 +123,26 @@ arrives c =
     let t = c.loop-i-test.true in
     let limit : ℕ = deepest (tokens c.args.s.now) in
     let byte : ℕ = get_or c.args.s.now c.loop-i.i 0 in
-    elim c.match-part.branch
-    [ in-Before+else-b-ne40 w ↦
-        one h t Before (Inside 1) w.in-Before.is (over_enter limit byte w.if-b-ne40.false) w.part-is
-        (w.most-is ∙ opens h t w.in-Before.is w.if-b-ne40.false w.deepest_at-most.ensures) w.i-is
-    | in-Inside+then-b-eq40+else-most-depth w ↦
-        let n = w.in-Inside.depth in
-        let e = w.in-Inside.is in
-        let d = known h t (Inside n) e in
-        let s : n + 1 ≡ suc n = omega arith in
-        one h t (Inside n) (Inside (n + 1)) e (rw s (over_open limit byte n w.if-b-eq40.true (omega (arith, d, w.if-most-depth.false)))) w.part-is (w.most-is ∙ d) w.i-is
-    | in-Inside+else-b-eq40+then-b-eq41 w ↦
-        let n = w.in-Inside.depth in
-        let e = w.in-Inside.is in
-        one h t (Inside n) w.out_of-part.result e
-        (over_close limit byte n w.if-b-eq41.true ∙ stand_out n ∙ sym (ap stand_of w.out_of-part.ensures)) w.part-is
-        (known_out c.args.s.now (c.loop-i.i + 1) n w.out_of-part.ensures (w.most-is ∙ known h t (Inside n) e)) w.i-is
-    | in-Inside+else-b-eq40+else-b-eq41 w ↦
-        let n = w.in-Inside.depth in
-        let e = w.in-Inside.is in
-        plain h t n e (over_plain limit byte n w.if-b-eq40.false w.if-b-eq41.false) w.scan-i-else-b-eq41.ensures.value w.scan-i-else-b-eq41.ensures.upper_bound w.part-is (w.most-is ∙ known h t (Inside n) e) w.i-is
+    elim c.match-part.branch [
+      | in-Before+else-b-ne40 w ↦
+          one h t Before (Inside 1) w.in-Before.is (over_enter limit byte w.if-b-ne40.false) w.part-is
+          (w.most-is ∙ opens h t w.in-Before.is w.if-b-ne40.false w.deepest_at-most.ensures) w.i-is
+      | in-Inside+then-b-eq40+else-most-depth w ↦
+          let n = w.in-Inside.depth in
+          let e = w.in-Inside.is in
+          let d = known h t (Inside n) e in
+          let s : n + 1 ≡ suc n = omega arith in
+          one h t (Inside n) (Inside (n + 1)) e (rw s (over_open limit byte n w.if-b-eq40.true (omega (arith, d, w.if-most-depth.false)))) w.part-is (w.most-is ∙ d) w.i-is
+      | in-Inside+else-b-eq40+then-b-eq41 w ↦
+          let n = w.in-Inside.depth in
+          let e = w.in-Inside.is in
+          one h t (Inside n) w.out_of-part.result e
+          (over_close limit byte n w.if-b-eq41.true ∙ stand_out n ∙ sym (ap stand_of w.out_of-part.ensures)) w.part-is
+          (known_out c.args.s.now (c.loop-i.i + 1) n w.out_of-part.ensures (w.most-is ∙ known h t (Inside n) e)) w.i-is
+      | in-Inside+else-b-eq40+else-b-eq41 w ↦
+          let n = w.in-Inside.depth in
+          let e = w.in-Inside.is in
+          plain h t n e (over_plain limit byte n w.if-b-eq40.false w.if-b-eq41.false) w.scan-i-else-b-eq41.ensures.value w.scan-i-else-b-eq41.ensures.upper_bound w.part-is (w.most-is ∙ known h t (Inside n) e) w.i-is
     ]
 
 pub scan-i-requires-in-loop-i : goal.scan-i-requires-in-loop-i

@@ -76,4 +76,3 @@ returns t c =
     let g = ap length e in
     let o = c.args.out.now in
     record { value = omega arith; out_after = rw (e, c.put_digits-at.ensures.out_after) (over_snoc d o c.put_digits-at.result (48 + n % 10) (sym q) (omega (arith, c.requires))) }
-

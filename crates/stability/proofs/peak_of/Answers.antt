@@ -21,9 +21,9 @@ loop-i-preserved c =
     let r : ℕ = c.loop-i.best in
     let i : ℕ = c.loop-i.i in
     let v = c.loop-i.invariant in
-    elim c.if-a-b.branch
-    [ then-a-b w ↦ (v.0, omega arith, rw w.best-is (peak_move ds i r v.2 (machine_under (get_or ds r (pos 0)) (get_or ds i (pos 0)) c.a-1.given c.b-1.given w.if-a-b.true)))
-    | else-a-b w ↦ (v.0, omega arith, rw w.best-is (peak_keep ds i r v.2 (machine_most (get_or ds r (pos 0)) (get_or ds i (pos 0)) c.a-1.given c.b-1.given w.if-a-b.false)))
+    elim c.if-a-b.branch [
+      | then-a-b w ↦ (v.0, omega arith, rw w.best-is (peak_move ds i r v.2 (machine_under (get_or ds r (pos 0)) (get_or ds i (pos 0)) c.a-1.given c.b-1.given w.if-a-b.true)))
+      | else-a-b w ↦ (v.0, omega arith, rw w.best-is (peak_keep ds i r v.2 (machine_most (get_or ds r (pos 0)) (get_or ds i (pos 0)) c.a-1.given c.b-1.given w.if-a-b.false)))
     ]
 
 pub returns : goal.returns
