@@ -8,24 +8,21 @@ use Rattle.reply.proofs.Writing.{over_fits}
 use Rattle.panel.proofs.Answers.{handed_room}
 use Rattle.panel.proofs.Room.{any_room}
 use Rattle.lines.proofs.Taking.{reply_waits}
-use borrow.Author.Rules.{rules}
-use Rattle.lines.proofs.answer_line.Statement.{statement}
-use Rattle.lines.proofs.answer_line.Tie as tie
+use Rattle.lines.proofs.answer_line.Goals as goal
 
-returns : tie.Need-returns
+pub returns : goal.returns
 returns c =
-    let k = c.before.before.before.before.before.before in
-    let args = k.args in
-    let pre = k.requires.1 in
+    let args = c.args in
+    let pre = c.requires.filled_bound in
     let l = args.out.now in
     let n = args.filled in
     let part = take (length l - n) (drop n l) in
     let d = length-drop n l in
     let m = length-take-le (length l - n) (drop n l) (omega arith) in
     let r : 2100 ≤ length part = omega (arith, pre) in
-    let e = c.before.before.answer.ensures in
+    let e = c.answer.ensures in
     let a = any_room args.c (length part) r args.line.now in
-    let w = over_fits _ part _ e.written c.before.before.answer.auto.1.1.1.0 in
+    let w = over_fits _ part _ e.written c.answer.auto.1.1.1.0 in
     rw (← a)
     (record {
       coded = e.coded;
@@ -33,8 +30,3 @@ returns c =
       room = omega (arith, e.long, w, m, pre);
       waits = rw e.written (reply_waits l part _ _ n _ (omega (arith, pre)) e.long);
     })
-
-pub answer-line-spec : {M : Type 1} → statement M
-answer-line-spec =
-    tie.close
-    (tie.spec (λ c. search rules) (λ c. search rules) (λ c. search rules) (λ c κs. search rules) (λ c. search rules) returns)

@@ -1,0 +1,20 @@
+-- `take_begun`: the line that has begun is ended: with byte 10 behind it, it is taken as a block of its own.
+use mathlib.Core.Path.{refl, sym}
+use native.Mathlib.Omega.{arith}
+use lib.ListN.{length-set}
+use lib.Seq.{length-take-le}
+use Rattle.lines.proofs.Pieces.{begun_taken, line_ended}
+use borrow.Author.Rules.{rules}
+use Rattle.lines.proofs.take_begun.Goals as goal
+
+pub slice_bounds-take_lines-end : goal.slice_bounds-take_lines-end
+slice_bounds-take_lines-end c = simp length-set (omega (arith, c.requires))
+
+pub slice_bounds-take_lines-end-2 : goal.slice_bounds-take_lines-end-2
+slice_bounds-take_lines-end-2 c = sym (length-take-le _ _ (simp length-set (omega (arith, c.before.before.before.requires))))
+
+pub returns : goal.returns
+returns c =
+    let t = c.take_lines-t in
+    let e = line_ended s.args.line.now s.args.f.used (omega (arith, s.requires)) in
+    begun_taken s.args.f _ _ s.args.out.now _ t.result e t.ensures s.requires.waits s.requires.output (search rules) _ refl refl refl refl

@@ -1,0 +1,18 @@
+-- `take_lines`: takes the lines of a block from `at` on: up to the last that byte 10 ends, while lines are left and there is room for a ..
+use mathlib.Core.Path.{◌≡◌, refl, sym, ◌∙◌}
+use Prim.Native.Nat.{◌-◌}
+use native.Mathlib.Omega.{arith}
+use lib.ListN.{length}
+use Rattle.panel.proofs.Answers.{answer_kept, answer_effect}
+use Rattle.input.specs.Lines.{between}
+use Rattle.input.proofs.Cutting.{no_line}
+use Rattle.lines.proofs.Pieces.{TakingAt, taking_first, taking_line, taking_ends}
+use borrow.Author.Rules.{rules}
+use Rattle.lines.proofs.take_lines.Given as goal
+
+abbrev pub invariant-loop-left : goal.invariant-loop-left
+invariant-loop-left l =
+    TakingAt (record { cond = l.initial.c; l.left = l.initial.left; l.used = l.used; l.filled = l.initial.filled }) l.block l.at l.initial.out (record { cond = l.c; l.left = l.left; l.used = l.used; l.filled = l.filled }) l.i l.out × (length l.initial.out ≡ 65536)
+
+abbrev pub decreases-loop-left : goal.decreases-loop-left
+decreases-loop-left l = l.left
