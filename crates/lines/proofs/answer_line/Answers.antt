@@ -22,7 +22,7 @@ returns c =
     let r : 2100 ≤ length part = omega (arith, pre) in
     let e = c.answer.ensures in
     let a = any_room args.c (length part) r args.line.now in
-    let w = over_fits _ part _ e.written c.answer.auto.1.1.1.0 in
+    let w = over_fits _ part _ e.written c.answer.auto.out in
     rw (← a)
     (record {
       coded = e.coded;

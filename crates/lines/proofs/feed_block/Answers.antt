@@ -14,20 +14,20 @@ pub returns-then-g-gt-FILLED : goal.returns-then-g-gt-FILLED
 returns-then-g-gt-FILLED c =
     let take-lines = c.take_lines-t in
     let first-line = c.first_line-first in
-    let o = first-line.auto.out.1.1.1.0 ∙ c.requires.1.output in
-    block_waits first-line.ensures take-lines.ensures c.requires.0 c.requires.1.waits (take-lines.auto.1.1.1.0 ∙ o) o c.if-g-gt-FILLED.true
+    let o = first-line.auto.out ∙ c.requires.1.output in
+    block_waits first-line.ensures take-lines.ensures c.requires.0 c.requires.1.waits (take-lines.auto.out ∙ o) o c.if-g-gt-FILLED.true
 
 pub keep-requires : goal.keep-requires
 keep-requires c =
     let take-lines = c.take_lines-t in
     let f = c.first_line-first in
     let pre = c.requires in
-    (omega (arith, take-lines.ensures.kept, f.ensures.begun), f.auto.out.1.1.0 ∙ pre.1.long)
+    (omega (arith, take-lines.ensures.kept, f.ensures.begun), f.auto.line ∙ pre.1.long)
 
 pub shape_of-line : goal.shape_of-line
 shape_of-line c =
     let first-line = c.first_line-first in
-    c.keep.auto.line ∙ first-line.auto.out.1.1.0
+    c.keep.auto.line ∙ first-line.auto.line
 
 pub returns : goal.returns
 returns c =
@@ -36,4 +36,4 @@ returns c =
     let first-line = c.first_line-first in
     let pre = c.requires in
     let k = c.keep in
-    block_kept first-line.ensures take-lines.ensures pre.0 k.result k.new.0 (omega (arith, if1.false)) (omega (arith, c.if-g-gt-FILLED.false)) k.ensures.upper_bound k.ensures.line_after
+    block_kept first-line.ensures take-lines.ensures pre.0 k.result k.new.line (omega (arith, if1.false)) (omega (arith, c.if-g-gt-FILLED.false)) k.ensures.upper_bound k.ensures.line_after

@@ -27,5 +27,5 @@ returns c =
     let a = c.args in
     let t = c.take_begun-feed in
     rw c.behind-next.ensures.value
-    (first_taken a.f _ a.line.now a.out.now a.block.now k.new.0 a.at e.result e.ensures.value c.requires.0 e.ensures.upper_bound refl refl refl k.ensures.upper_bound
+    (first_taken a.f _ a.line.now a.out.now a.block.now k.new.line a.at e.result e.ensures.value c.requires.0 e.ensures.upper_bound refl refl refl k.ensures.upper_bound
     (omega (arith, c.requires.1.waits)) (omega (arith, if1.false)) k.ensures.line_after t.result _ _ t.ensures (omega (arith, if2.false)))

@@ -11,10 +11,10 @@ pub slice_bounds-take_lines-end : goal.slice_bounds-take_lines-end
 slice_bounds-take_lines-end c = simp length-set (omega (arith, c.requires))
 
 pub slice_bounds-take_lines-end-2 : goal.slice_bounds-take_lines-end-2
-slice_bounds-take_lines-end-2 c = sym (length-take-le _ _ (simp length-set (omega (arith, c.before.before.before.requires))))
+slice_bounds-take_lines-end-2 c = sym (length-take-le _ _ (simp length-set (omega (arith, c.requires))))
 
 pub returns : goal.returns
 returns c =
     let t = c.take_lines-t in
-    let e = line_ended s.args.line.now s.args.f.used (omega (arith, s.requires)) in
-    begun_taken s.args.f _ _ s.args.out.now _ t.result e t.ensures s.requires.waits s.requires.output (search rules) _ refl refl refl refl
+    let e = line_ended c.args.line.now c.args.f.used (omega (arith, c.requires)) in
+    begun_taken c.args.f _ _ c.args.out.now _ t.result e t.ensures c.requires.waits c.requires.output (search rules) _ refl refl refl refl

@@ -50,7 +50,7 @@ loop-left-preserved-then-r-eq0 c =
     let args = c.args in
     let t = between args.block.now l.i e.result in
     let d = answer_effect l.c t 2100 h.result h.ensures a.result.code a.ensures.coded c.if-r-eq0.true a.result.moment a.ensures.moment c.effect-c.result c.effect-c.ensures in
-    (rw c.behind-i.ensures.value (taking_line l.invariant.0 e.result e.ensures.value (omega (arith, if2.false)) (omega (arith, loop-test.true)) _ _ d refl a.ensures.waits a.ensures.room (a.auto.1.1.1.0 ∙ l.invariant.0.sized)), l.invariant.1)
+    (rw c.behind-i.ensures.value (taking_line l.invariant.0 e.result e.ensures.value (omega (arith, if2.false)) (omega (arith, loop-test.true)) _ _ d refl a.ensures.waits a.ensures.room (a.auto.out ∙ l.invariant.0.sized)), l.invariant.1)
 
 pub loop-left-smaller : goal.loop-left-smaller
 loop-left-smaller c =
@@ -68,7 +68,7 @@ loop-left-preserved c =
     let a = c.answer_line-r in
     let t = between args.block.now l.i e.result in
     let d = answer_kept l.c t 2100 h.result h.ensures a.result.code a.ensures.coded c.if-r-eq0.false in
-    (rw c.behind-i.ensures.value (taking_line l.invariant.0 e.result e.ensures.value (omega (arith, if2.false)) (omega (arith, loop-test.true)) _ _ d refl a.ensures.waits a.ensures.room (a.auto.1.1.1.0 ∙ l.invariant.0.sized)), l.invariant.1)
+    (rw c.behind-i.ensures.value (taking_line l.invariant.0 e.result e.ensures.value (omega (arith, if2.false)) (omega (arith, loop-test.true)) _ _ d refl a.ensures.waits a.ensures.room (a.auto.out ∙ l.invariant.0.sized)), l.invariant.1)
 
 pub shape_of-out : goal.shape_of-out
 shape_of-out c = let v = c.loop-left.invariant in v.0.sized ∙ sym v.1

@@ -12,7 +12,7 @@ use Rattle.lines.proofs.take_lines.Given as goal
 
 abbrev pub invariant-loop-left : goal.invariant-loop-left
 invariant-loop-left l =
-    TakingAt (record { cond = l.initial.c; l.left = l.initial.left; l.used = l.used; l.filled = l.initial.filled }) l.block l.at l.initial.out (record { cond = l.c; l.left = l.left; l.used = l.used; l.filled = l.filled }) l.i l.out × (length l.initial.out ≡ 65536)
+    TakingAt (record { cond = l.initial.c; left = l.initial.left; used = l.used; filled = l.initial.filled }) l.block l.at l.initial.out (record { cond = l.c; left = l.left; used = l.used; filled = l.filled }) l.i l.out × (length l.initial.out ≡ 65536)
 
 abbrev pub decreases-loop-left : goal.decreases-loop-left
 decreases-loop-left l = l.left
