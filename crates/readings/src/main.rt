@@ -2,6 +2,11 @@
 // shows one of them (tests/readings.py says which).
 #![tactic(auto)]
 
-fn main() {
-    service::serve(input::most_lines(), input::most_bytes());
+fn main(rt: HostRuntime) {
+    service::serve(
+        &mut rt.stdin(),
+        &mut rt.stdout(),
+        input::most_lines(),
+        input::most_bytes(),
+    );
 }

@@ -6,47 +6,44 @@ ghost use Rattle.lines.specs.Taking.{Stands};
 
 use input::Told;
 use lines::Feed;
+use std::io::{ErrorKind, Read, Stdin, Stdout, Write};
 
 // Writes all of a slice; an interrupted write is repeated. Whether all was written.
-fn write_out(bytes: &[u8]) -> bool {
+fn write_out(output: &mut Stdout, bytes: &[u8]) -> bool {
     let mut done = 0;
     let mut tries: u64 = 1000000;
     while 0 < tries {
         if bytes.len() <= done {
             return true;
         }
-        let got = libc::write(libc::STDOUT_FILENO, &bytes[done..]);
         tries -= 1;
-        if got < 0 {
-            if os::errno() != libc::EINTR {
-                return false;
+        match output.write(&bytes[done..]) {
+            Ok(n) => done += n,
+            Err(e) => {
+                if e.kind() != ErrorKind::Interrupted {
+                    return false;
+                }
             }
-            continue;
         }
-        let n = io::count(got, &bytes[done..]);
-        done += n;
     }
     false
 }
 
 // Reads once, at most `most` bytes; an interrupted read is repeated. How many came: 0 at the end of the input, or where a read
 // fails.
-fn fetch(block: &mut [u8], most: usize) -> usize
+fn fetch(input: &mut Stdin, block: &mut [u8], most: usize) -> usize
     requires { most ≤ length block.old }
     ensures { result ≤ most }
 {
     let mut tries: u64 = 1000000;
     while 0 < tries {
-        let got = libc::read(libc::STDIN_FILENO, &mut block[..most]);
-        if 0 <= got {
-            let n = io::count(got, block);
-            if n <= most {
-                return n;
+        match input.read(&mut block[..most]) {
+            Ok(n) => return n,
+            Err(e) => {
+                if e.kind() != ErrorKind::Interrupted {
+                    return 0;
+                }
             }
-            return 0;
-        }
-        if os::errno() != libc::EINTR {
-            return 0;
         }
         tries -= 1;
     }
@@ -79,10 +76,10 @@ fn emptied(f: Feed, written: usize) -> Feed
 
 // Takes lines from standard input until it ends, or this many lines or bytes were read. A turn takes lines from what is left of the
 // block and writes their replies, or reads the next block.
-pub fn serve(max_lines: u64, max_bytes: u64) {
-    let mut block = io::large_buffer();
+pub fn serve(from: &mut Stdin, to: &mut Stdout, max_lines: u64, max_bytes: u64) {
+    let mut block = [0u8; 65536];
     let mut line = [0u8; 2002];
-    let mut out = io::large_buffer();
+    let mut out = [0u8; 65536];
     let mut f = start(max_lines);
     let mut more = max_bytes;
     let mut n = 0;
@@ -92,7 +89,7 @@ pub fn serve(max_lines: u64, max_bytes: u64) {
         if at < n {
             let t = lines::feed_block(f, &block[..n], at, &mut line, &mut out);
             let waits = t.feed.filled;
-            if !write_out(&out[..waits]) {
+            if !write_out(to, &out[..waits]) {
                 return;
             }
             f = emptied(t.feed, waits);
@@ -104,7 +101,7 @@ pub fn serve(max_lines: u64, max_bytes: u64) {
             going = false;
             continue;
         }
-        n = fetch(&mut block, ask);
+        n = fetch(from, &mut block, ask);
         at = 0;
         match input::tell(f.used, more, n) {
             Told::Goes => more -= n as u64,
@@ -116,5 +113,5 @@ pub fn serve(max_lines: u64, max_bytes: u64) {
         }
     }
     let waits = f.filled;
-    write_out(&out[..waits]);
+    write_out(to, &out[..waits]);
 }

@@ -1,0 +1,9 @@
+-- `fetch`: reads once, at most `most` bytes; an interrupted read is repeated.
+use mathlib.Core.Path.{◌≡◌, sym}
+use Prim.Native.Nat.{◌≤◌}
+use native.Mathlib.Omega.{arith}
+use lib.Seq.{length-take-le}
+use Rattle.service.proofs.fetch.Goals as goal
+
+pub slice_bounds-read-end-in-loop-tries : goal.slice_bounds-read-end-in-loop-tries
+slice_bounds-read-end-in-loop-tries c = sym (length-take-le _ _ (omega arith))
