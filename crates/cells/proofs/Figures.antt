@@ -12,6 +12,7 @@ use Rattle.record.specs.declared.Cell.TheVariants.{Wing, Hatch, Void}
 use Rattle.cells.specs.Depth.{standard_depth, wing_unrounded, wing_depth, cell_depth, cell_area}
 use Rattle.cells.specs.Sizes.{most_held}
 use Rattle.cells.specs.Figures.{RoundedUp, printed_distances, StandardDepth, WingUnrounded, WingDepth, CellArea, MostHeld}
+use Rattle.cells.proofs.Rounding.{whole_mm}
 use Rattle.cells.proofs.Depths.{distance_is, below_first, above_last, interpolates}
 use Rattle.cells.proofs.Sizes.{most_triangle, most_trapezium, most_taken}
 
@@ -42,10 +43,6 @@ unfolding wing_depth
 wing dist girder =
     let e = wing_unrounded dist girder in
     (e, unrounded dist girder, rounded_up e 50 (omega arith))
-
--- of whole mm nothing is rounded
-pub whole_mm : (w d : ℕ) → ceil_div (w * (10 * d)) 10 ≡ w * d
-whole_mm w d = omega arith
 
 pub area_is : (c : Cell) → CellArea c (cell_area c)
 unfolding cell_area cell_depth

@@ -1,4 +1,5 @@
 pub mod Depths
 pub mod Sizes
+pub mod Rounding
 pub mod Figures
 pub mod Tenths

@@ -9,19 +9,8 @@ use Rattle.record.specs.declared.Cell.{Cell}
 use Rattle.record.specs.declared.Cell.TheVariants.{Wing, Hatch, Void}
 use Rattle.cells.specs.Depth.{wing_unrounded, wing_depth, cell_depth, cell_area}
 use Rattle.cells.specs.Figures.{WingAreaNear, AreaByDepth}
-use Rattle.cells.proofs.Figures.{unrounded_only, whole_mm}
-
--- with the two roundings as variables
-near_by : (w e d a : ℕ) → e ≤ 50 * d → 50 * d < e + 50 → w * d ≤ 10 * a → 10 * a < w * d + 10 → WingAreaNear w e a
-near_by w e d a h k l m =
-    let up : 50 * d ≤ e + 49 = omega arith in
-    record {
-      not_below = omega (arith, mul-le-mul_left w h);
-      near = omega (arith, mul-le-mul_left w up);
-      not_above_whole = λ mm r.
-          let tenths : d ≤ 10 * mm = omega (arith, r.0) in
-          omega (arith, mul-le-mul_left w tenths);
-    }
+use Rattle.cells.proofs.Rounding.{whole_mm, near_by}
+use Rattle.cells.proofs.Figures.{unrounded_only}
 
 wing_near : (w e : ℕ) → WingAreaNear w e (ceil_div (w * ceil_div e 50) 10)
 wing_near w e =

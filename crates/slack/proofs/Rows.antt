@@ -10,6 +10,7 @@ use borrow.Author.Tests.{leb-true, leb-false, le-leb, lt-leb}
 use Rattle.slack.specs.Deck.{rise, is_uncut, height_square, lies_in_triangle, uncut_moment, triangle_moment, neither_moment, deck_moment}
 use Rattle.slack.specs.Exact.{Uncut, LiesAsTriangle, TriangleMoment, Crosses}
 use Rattle.slack.specs.Laws.{MomentsAreNear, ExchangedAlike}
+use Rattle.slack.proofs.Cases.{row_uncut, row_triangle, row_neither}
 use Rattle.slack.proofs.Triangles.{triangle_moment_lem, triangle_le}
 use Rattle.slack.proofs.Neither.{some_height, neither_le}
 use Rattle.slack.proofs.Shapes.{uncut_near, neither_near, lies_by, cut_by, shapes_apart}
@@ -23,21 +24,7 @@ is_false : (t : Bool) → (t ≡ true → ⊥) → t ≡ false
 is_false true f = absurd (f refl)
 is_false false f = refl
 
--- ---- the row by the tests
-module _ (b v g : ℕ) where
-  row_uncut : is_uncut b v g ≡ true → deck_moment b v g ≡ uncut_moment b
-  unfolding deck_moment
-  row_uncut e = rw e
-
-  row_triangle : is_uncut b v g ≡ false → lies_in_triangle b v g ≡ true → deck_moment b v g ≡ triangle_moment b (b * min v g)
-  unfolding deck_moment
-  row_triangle e f = rw (e, f)
-
-  row_neither : is_uncut b v g ≡ false → lies_in_triangle b v g ≡ false → deck_moment b v g ≡ neither_moment b v g (v + g)
-  unfolding deck_moment
-  row_neither e f = rw (e, f)
-
--- and by the program's comparisons, with the lesser depth m
+-- ---- the row by the program's comparisons, with the lesser depth m
 module _ (b v g m : ℕ) (least : m ≡ min v g) where
   pub by_uncut : rise b ≤ 200000 * m → deck_moment b v g ≡ uncut_moment b
   by_uncut h = row_uncut b v g (rw (← least) (le-leb (rise b) (200000 * m) h))
