@@ -1,6 +1,6 @@
 -- `area_to`: AREA from 0 to UPPER.
 use mathlib.Core.Path.{◌≡◌, ◌∙◌, ap₂}
-use Prim.Native.Nat.{◌+◌, ◌*◌, ◌-◌, ◌^◌, ◌≤◌}
+use Prim.Native.Nat.{◌+◌}
 use native.Mathlib.Omega.{arith}
 use Rattle.area.proofs.Stretches.{area_none, area_more}
 use Rattle.area.proofs.area_to.Goals as goal

@@ -1,11 +1,8 @@
 -- `area_to`: AREA from 0 to UPPER.
-use borrow.Author.Rules.{rules}
-use mathlib.Core.Path.{◌≡◌, ◌∙◌, ap₂}
-use Prim.Native.Nat.{◌+◌, ◌*◌, ◌-◌, ◌^◌, ◌≤◌}
-use native.Mathlib.Omega.{arith}
+use mathlib.Core.Path.{◌≡◌}
+use Prim.Native.Nat.{◌*◌, ◌-◌, ◌^◌, ◌≤◌}
 use Rattle.area.specs.Area.{area_over}
 use Rattle.arms.specs.Arms.{plus_at, minus_at}
-use Rattle.area.proofs.Stretches.{area_none, area_more}
 use Rattle.area.proofs.area_to.Given as goal
 
 abbrev pub invariant-loop-k : goal.invariant-loop-k

@@ -1,15 +1,8 @@
 -- `differences`: the ten differences.
-use borrow.Author.Rules.{rules}
-use mathlib.Core.Path.{◌≡◌, ◌∙◌, ap}
+use mathlib.Core.Path.{◌≡◌}
 use Prim.Native.Nat.{ℕ, ◌-◌, ◌≤◌, ◌<◌}
-use native.Mathlib.Omega.{arith}
 use lib.ListN.{length, get_or}
-use lib.IntN.{ℤ, pos}
-use mir.Facts.{to_z-of_z}
-use mir.Syntax.{w64}
-use borrow.Author.Rules.{sfits_of}
-use borrow.Author.Count.{below_none}
-use Rattle.whole.proofs.Lists.{filled_more, filled_is}
+use lib.IntN.{pos}
 use Rattle.arms.specs.Walk.{left_over}
 use Rattle.arms.proofs.differences.Given as goal
 

@@ -1,11 +1,7 @@
 -- `heeling_arms`
-use borrow.Author.Rules.{rules}
 use mathlib.Core.Path.{◌≡◌}
 use Prim.Native.Nat.{ℕ, ◌-◌, ◌≤◌, ◌<◌}
-use native.Mathlib.Omega.{arith}
 use lib.ListN.{length, get_or}
-use borrow.Author.Count.{below_none}
-use Rattle.whole.proofs.Lists.{filled_more, filled_is}
 use Rattle.arms.specs.Arms.{heeling_arm}
 use Rattle.arms.specs.Judgeable.{Judgeable}
 use Rattle.arms.proofs.heeling_arms.Given as goal

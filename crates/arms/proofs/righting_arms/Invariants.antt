@@ -1,15 +1,8 @@
 -- `righting_arms`
-use mir.Syntax.{w64}
-use borrow.Author.Rules.{rules}
-use mathlib.Core.Path.{◌≡◌, ◌∙◌}
+use mathlib.Core.Path.{◌≡◌}
 use Prim.Native.Nat.{ℕ, ◌-◌, ◌≤◌, ◌<◌}
-use native.Mathlib.Omega.{arith}
 use lib.ListN.{length, get_or}
 use lib.IntN.{pos}
-use mir.Facts.{to_z-of_z}
-use borrow.Author.Rules.{sfits_of}
-use borrow.Author.Count.{below_none}
-use Rattle.whole.proofs.Lists.{filled_more, filled_is}
 use Rattle.arms.specs.Arms.{righting_arm}
 use Rattle.arms.specs.Judgeable.{Judgeable}
 use Rattle.arms.proofs.righting_arms.Given as goal

@@ -1,17 +1,9 @@
 -- `in_order`: whether each column held is within its limits and above the one before.
-use mathlib.Core.Path.{◌≡◌, refl, sym, ◌∙◌, ap}
-use Prim.Native.Nat.{◌≤◌, ◌<◌, ◌+◌, ◌-◌}
-use native.Mathlib.Omega.{arith}
-use lib.ListN.{length, drop, length-take}
-use lib.Seq.{get_or-take}
-use borrow.Author.Tests.{not-true, not-false}
-use Rattle.whole.proofs.Lists.{unmapped}
+use mathlib.Core.Path.{◌≡◌}
+use Prim.Native.Nat.{◌≤◌, ◌-◌}
+use lib.ListN.{length, drop}
 use Rattle.record.specs.Held.{held}
 use Rattle.columns.specs.Columns.{in_order}
-use Rattle.limits.specs.Limits.{column_limits}
-use Rattle.record.proofs.Taken.{past_column}
-use Rattle.columns.proofs.Order.{order_none, order_limits, order_last, order_not_above, order_next}
-use borrow.Author.Rules.{rules}
 use Rattle.columns.proofs.in_order.Given as goal
 
 abbrev pub invariant-loop-i : goal.invariant-loop-i

@@ -1,12 +1,9 @@
 -- `section`: the section moment of a part's cells, or that its void does not fit.
-use borrow.Author.Rules.{rules}
-use mathlib.Core.Path.{◌≡◌, refl}
+use mathlib.Core.Path.{◌≡◌}
 use Prim.Native.Nat.{◌+◌, ◌-◌, ◌≤◌}
-use native.Mathlib.Omega.{arith}
 use lib.ListN.{length}
-use Rattle.whole.proofs.Lists.{unmapped}
 use Rattle.record.specs.Held.{cells_of}
-use Rattle.grain.proofs.Walks.{PartWithin, part_within, Ahead, ahead_start, part_room, part_next, part_last, part_not_negative}
+use Rattle.grain.proofs.Walks.{PartWithin, Ahead}
 use Rattle.grain.proofs.section.Given as goal
 
 abbrev pub invariant-loop-i : goal.invariant-loop-i

@@ -1,7 +1,7 @@
 -- `cells_within`: whether each of the first `count` cells is within its limits.
 use borrow.Author.Rules.{rules}
 use mathlib.Core.Path.{◌≡◌, sym, ◌∙◌, ap}
-use Prim.Native.Nat.{◌≤◌, ◌-◌}
+use Prim.Native.Nat.{◌≤◌}
 use native.Mathlib.Omega.{arith}
 use lib.ListN.{length}
 use Rattle.whole.proofs.Lists.{unmapped, all_stop, all_go, all_done}

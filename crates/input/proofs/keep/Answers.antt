@@ -1,12 +1,10 @@
 -- `keep`: keeps of a piece what has room behind the first `used` bytes of the line, 2,001 in all: how many are kept then.
-use mathlib.Core.List.{append-nil, ◌++◌}
+use mathlib.Core.List.{append-nil}
 use Rattle.input.proofs.Cutting.{kept_more, kept_all, kept_rest}
-use Prim.Native.Nat.{◌≤◌, ◌-◌, ◌+◌}
 use native.Mathlib.Omega.{arith}
-use mathlib.Core.Path.{◌≡◌, sym, ◌∙◌}
-use lib.ListN.{length, take, length-set}
+use mathlib.Core.Path.{sym, ◌∙◌}
+use lib.ListN.{take, length-set}
 use lib.Seq.{length-take-le}
-use borrow.Author.Rules.{rules}
 use Rattle.input.proofs.keep.Goals as goal
 
 pub loop-i-init : goal.loop-i-init

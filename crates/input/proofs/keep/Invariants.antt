@@ -1,12 +1,8 @@
 -- `keep`: keeps of a piece what has room behind the first `used` bytes of the line, 2,001 in all: how many are kept then.
-use mathlib.Core.List.{append-nil, ◌++◌}
-use Rattle.input.proofs.Cutting.{kept_more, kept_all, kept_rest}
+use mathlib.Core.List.{◌++◌}
 use Prim.Native.Nat.{◌≤◌, ◌-◌, ◌+◌}
-use native.Mathlib.Omega.{arith}
-use mathlib.Core.Path.{◌≡◌, sym, ◌∙◌}
-use lib.ListN.{length, take, length-set}
-use lib.Seq.{length-take-le}
-use borrow.Author.Rules.{rules}
+use mathlib.Core.Path.{◌≡◌}
+use lib.ListN.{length, take}
 use Rattle.input.proofs.keep.Given as goal
 
 abbrev pub invariant-loop-i : goal.invariant-loop-i

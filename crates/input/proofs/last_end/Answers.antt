@@ -1,11 +1,6 @@
 -- `last_end`: the same, byte by byte.
-use Rattle.input.specs.Lines.{line_length}
 use Rattle.input.proofs.Cutting.{line_out, line_stop, line_on}
-use Prim.Native.Nat.{◌≤◌, ◌-◌, ◌+◌}
 use native.Mathlib.Omega.{arith}
-use mathlib.Core.Path.{◌≡◌}
-use lib.ListN.{length, drop}
-use borrow.Author.Rules.{rules}
 use Rattle.input.proofs.last_end.Goals as goal
 
 pub returns-then-block-e-eq10 : goal.returns-then-block-e-eq10

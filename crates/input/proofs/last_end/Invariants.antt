@@ -1,11 +1,8 @@
 -- `last_end`: the same, byte by byte.
 use Rattle.input.specs.Lines.{line_length}
-use Rattle.input.proofs.Cutting.{line_out, line_stop, line_on}
 use Prim.Native.Nat.{◌≤◌, ◌-◌, ◌+◌}
-use native.Mathlib.Omega.{arith}
 use mathlib.Core.Path.{◌≡◌}
 use lib.ListN.{length, drop}
-use borrow.Author.Rules.{rules}
 use Rattle.input.proofs.last_end.Given as goal
 
 abbrev pub invariant-loop-e : goal.invariant-loop-e

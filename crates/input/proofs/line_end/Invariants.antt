@@ -1,11 +1,8 @@
 -- `line_end`: the place of the next byte 10 from `at` on, or the block's end: four bytes in a turn.
 use Rattle.input.specs.Lines.{line_length}
-use Rattle.input.proofs.Cutting.{line_stop, line_on}
 use Prim.Native.Nat.{◌≤◌, ◌-◌, ◌+◌}
-use native.Mathlib.Omega.{arith}
 use mathlib.Core.Path.{◌≡◌}
 use lib.ListN.{length, drop}
-use borrow.Author.Rules.{rules}
 use Rattle.input.proofs.line_end.Given as goal
 
 abbrev pub invariant-loop-e : goal.invariant-loop-e

@@ -1,7 +1,6 @@
 -- `to_ask`: how many bytes are asked for next, where `left` lines and `more` bytes may still come and `used` bytes of a line are kept.
 use native.Mathlib.Omega.{arith}
 use Rattle.input.proofs.Limits.{ask_full, ask_none, ask_more, ask_one}
-use borrow.Author.Rules.{rules}
 use Rattle.input.proofs.to_ask.Goals as goal
 
 pub returns-then-left-eq0 : goal.returns-then-left-eq0

@@ -1,14 +1,9 @@
 -- `sizes_at`: the last `want` numbers of a form, and its closing bracket.
-use Prim.Native.Nat.{◌≤◌, ◌-◌, ◌+◌}
-use native.Mathlib.Omega.{arith}
-use native.Mathlib.Numerals.{add-one}
-use mathlib.Core.Path.{◌≡◌, refl, sym, ◌∙◌}
-use mathlib.Core.List.{[], ◌∷◌, ◌++◌}
-use lib.ListN.{length, take, drop, set, length-set}
-use lib.Seq.{take-suc-set}
+use Prim.Native.Nat.{◌≤◌, ◌-◌}
+use mathlib.Core.Path.{◌≡◌}
+use lib.ListN.{length, take, drop}
 use Rattle.text.specs.Token.{tokens}
-use Rattle.items.proofs.Walks.{ahead, ahead_one, ahead_none, sizes, sizes_stop, sizes_next, sizes_end}
-use borrow.Author.Rules.{rules}
+use Rattle.items.proofs.Walks.{ahead, sizes}
 use Rattle.items.proofs.sizes_at.Given as goal
 
 abbrev pub invariant-loop-i : goal.invariant-loop-i

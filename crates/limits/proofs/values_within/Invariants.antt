@@ -1,12 +1,8 @@
 -- `values_within`: whether each KN is within its limits.
-use mathlib.Core.Path.{◌≡◌, sym, ◌∙◌}
+use mathlib.Core.Path.{◌≡◌}
 use Prim.Native.Nat.{◌≤◌, ◌-◌}
-use native.Mathlib.Omega.{arith}
-use borrow.Author.Rules.{rules}
-use borrow.Author.Tests.{not-true, not-false}
 use lib.ListN.{drop}
 use Rattle.whole.specs.Lists.{within, all}
-use Rattle.whole.proofs.Lists.{all_stop, all_go, all_done}
 use Rattle.limits.proofs.values_within.Given as goal
 
 abbrev pub invariant-loop-i : goal.invariant-loop-i

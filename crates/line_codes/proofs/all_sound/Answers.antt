@@ -1,8 +1,7 @@
 -- `all_sound`: 13: whether every run of a line that starts with a digit is a number.
 use borrow.Author.Rules.{rules}
-use mathlib.Core.Path.{◌≡◌, sym, ◌∙◌, ap}
+use mathlib.Core.Path.{sym, ◌∙◌, ap}
 use native.Mathlib.Omega.{arith}
-use Prim.Native.Nat.{◌≤◌, ◌-◌}
 use Rattle.line_codes.specs.Line.{tested}
 use Rattle.text.proofs.Scans.{stands, asked_runs, asked_others}
 use Rattle.line_codes.proofs.Sounds.{sound_end, run_bad, run_good, run_next}

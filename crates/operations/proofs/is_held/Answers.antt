@@ -1,6 +1,5 @@
 -- `is_held`: whether there is a hold n.
 use mathlib.Core.Path.{◌≡◌, sym, ap}
-use Prim.Native.Nat.{◌-◌}
 use lib.Dec.{ltb}
 use lib.ListN.{length}
 use Rattle.whole.proofs.Lists.{unmapped}

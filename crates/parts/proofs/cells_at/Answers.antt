@@ -1,5 +1,5 @@
 -- `cells_at`: the cells of a part, at most eight, and its closing bracket.
-use Prim.Native.Nat.{◌≤◌, ◌-◌, ◌+◌, ◌<◌}
+use Prim.Native.Nat.{◌-◌, ◌+◌, ◌<◌}
 use native.Mathlib.Omega.{arith}
 use mathlib.Core.Path.{◌≡◌, sym, ◌∙◌}
 use lib.ListN.{take, drop}

@@ -1,17 +1,13 @@
 -- `cells_at`: the cells of a part, at most eight, and its closing bracket.
-use Prim.Native.Nat.{◌≤◌, ◌-◌, ◌+◌, ◌<◌}
-use native.Mathlib.Omega.{arith}
-use mathlib.Core.Path.{◌≡◌, sym, ◌∙◌}
+use Prim.Native.Nat.{◌≤◌, ◌-◌}
+use mathlib.Core.Path.{◌≡◌}
 use lib.ListN.{length, take, drop}
 use Rattle.text.specs.Token.{tokens}
-use Rattle.items.proofs.Walks.{ahead, ahead_one, ahead_none, ahead_end, kept_items, items_closed, items_stop, items_next}
-use Rattle.parts.proofs.Filling.{Filling, filling_none, filling_more, filling_taken, filled, items_end}
-use Rattle.record.specs.declared.Slot.{Slot}
+use Rattle.items.proofs.Walks.{ahead, kept_items}
+use Rattle.parts.proofs.Filling.{Filling}
 use Rattle.record.specs.Filler.{no_slot}
 use Rattle.parts.specs.Shape.{cell?}
 use Rattle.parts.specs.Carried.{slot_of}
-use Rattle.parts.proofs.Records.{slot_of_lem}
-use borrow.Author.Rules.{rules}
 use Rattle.parts.proofs.cells_at.Given as goal
 
 abbrev pub invariant-loop-i : goal.invariant-loop-i

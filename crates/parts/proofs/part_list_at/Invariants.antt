@@ -1,15 +1,13 @@
 -- `part_list_at`: the parts of a hold, at most six, and its closing bracket.
-use Prim.Native.Nat.{◌≤◌, ◌-◌, ◌+◌, ◌<◌}
-use native.Mathlib.Omega.{arith}
-use mathlib.Core.Path.{◌≡◌, sym, ◌∙◌}
+use Prim.Native.Nat.{◌≤◌, ◌-◌}
+use mathlib.Core.Path.{◌≡◌}
 use lib.ListN.{length, take, drop}
 use Rattle.text.specs.Token.{tokens}
-use Rattle.items.proofs.Walks.{ahead, ahead_one, ahead_none, ahead_end, kept_items, items_closed, items_stop, items_next}
-use Rattle.parts.proofs.Filling.{Filling, filling_none, filling_more, filling_taken, filled, items_end}
+use Rattle.items.proofs.Walks.{ahead, kept_items}
+use Rattle.parts.proofs.Filling.{Filling}
 use Rattle.record.specs.Filler.{no_part}
 use Rattle.parts.specs.Shape.{part?}
 use Rattle.parts.specs.Carried.{carried_part}
-use borrow.Author.Rules.{rules}
 use Rattle.parts.proofs.part_list_at.Given as goal
 
 abbrev pub invariant-loop-i : goal.invariant-loop-i

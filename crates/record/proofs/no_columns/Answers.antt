@@ -1,5 +1,4 @@
 -- `no_columns`
-use borrow.Author.Rules.{rules}
 use Rattle.record.proofs.no_columns.Goals as goal
 
 pub returns : goal.returns

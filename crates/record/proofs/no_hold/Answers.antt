@@ -1,5 +1,4 @@
 -- `no_hold`
-use borrow.Author.Rules.{rules}
 use Rattle.record.proofs.no_hold.Goals as goal
 
 pub returns : goal.returns

@@ -1,5 +1,4 @@
 -- `no_part`
-use borrow.Author.Rules.{rules}
 use Rattle.record.proofs.no_part.Goals as goal
 
 pub returns : goal.returns

@@ -6,7 +6,6 @@ use native.Mathlib.Omega.{arith}
 use lib.ListN.{length, length-set, length-append}
 use Rattle.reply.specs.Written.{digits}
 use Rattle.reply.proofs.Writing.{over_none, over_one, over_snoc, digits_none, digits_one, digits_more}
-use Prim.Native.Nat.{◌<◌}
 use Rattle.reply.proofs.+put_digits.Goals as goal
 
 pub returns-then-k-eq0 : goal.returns-then-k-eq0

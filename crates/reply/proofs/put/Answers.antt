@@ -2,7 +2,6 @@
 use lib.ListN.{length-set}
 use lib.Seq.{take-length}
 use Rattle.reply.proofs.Writing.{over_none, over_next}
-use Prim.Native.Nat.{◌≤◌, ◌-◌}
 use native.Mathlib.Omega.{arith}
 use mathlib.Core.Path.{◌≡◌, refl, sym, ◌∙◌}
 use lib.ListN.{length}

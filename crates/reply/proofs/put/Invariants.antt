@@ -1,13 +1,8 @@
 -- `put`: a text over the front of a buffer.
-use lib.ListN.{length-set}
-use lib.Seq.{take-length}
 use Rattle.reply.specs.Written.{over}
-use Rattle.reply.proofs.Writing.{over_none, over_next}
 use Prim.Native.Nat.{◌≤◌, ◌-◌}
-use native.Mathlib.Omega.{arith}
-use mathlib.Core.Path.{◌≡◌, refl, sym, ◌∙◌}
+use mathlib.Core.Path.{◌≡◌}
 use lib.ListN.{length, take}
-use borrow.Author.Rules.{rules}
 use Rattle.reply.proofs.put.Given as goal
 
 abbrev pub invariant-loop-i : goal.invariant-loop-i

@@ -1,6 +1,5 @@
 -- `show`: the form inside a show line, in the one spelling, and a newline, over the front of a buffer.
 use mathlib.Core.Path.{◌∙◌}
-use Prim.Native.Nat.{◌-◌}
 use native.Mathlib.Omega.{arith}
 use Rattle.text.specs.Token.{tokens}
 use Rattle.spelling.specs.Spelling.{spell}

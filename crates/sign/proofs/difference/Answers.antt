@@ -1,6 +1,5 @@
 -- `difference`: a - b.
 use Rattle.sign.proofs.Signs.{machine_sub_fits, machine_sub_is}
-use borrow.Author.Rules.{rules}
 use Rattle.sign.proofs.difference.Goals as goal
 
 pub overflow_sub-result : goal.overflow_sub-result

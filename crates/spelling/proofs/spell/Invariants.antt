@@ -1,9 +1,7 @@
 -- `spell`: the tokens of a line in the one spelling, over the front of a buffer: token by token, with the space in front of each.
 use lib.ListN.{length, drop}
-use borrow.Author.Rules.{rules}
-use Rattle.text.specs.Token.{opened, closed, run, tokens}
-use Rattle.text.proofs.Runs.{next_by}
-use Rattle.spelling.proofs.Walk.{Standing, standing_first, standing_long, standing_ends, standing_less, standing_room, standing_next}
+use Rattle.text.specs.Token.{tokens}
+use Rattle.spelling.proofs.Walk.{Standing}
 use Rattle.spelling.proofs.spell.Given as goal
 
 abbrev pub invariant-loop-q : goal.invariant-loop-q

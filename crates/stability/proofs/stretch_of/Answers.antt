@@ -1,6 +1,5 @@
 -- `stretch_of`: the stretch in which the angle x lies.
-use mathlib.Core.Path.{◌≡◌, sym, ◌∙◌}
-use Prim.Native.Nat.{◌≤◌}
+use mathlib.Core.Path.{sym, ◌∙◌}
 use native.Mathlib.Omega.{arith}
 use Rattle.stability.proofs.Stretch.{below_found, below_next, below_none}
 use Rattle.stability.proofs.stretch_of.Goals as goal

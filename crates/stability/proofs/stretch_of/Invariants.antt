@@ -1,10 +1,7 @@
 -- `stretch_of`: the stretch in which the angle x lies.
-use borrow.Author.Rules.{rules}
-use mathlib.Core.Path.{◌≡◌, sym, ◌∙◌}
+use mathlib.Core.Path.{◌≡◌}
 use Prim.Native.Nat.{◌≤◌}
-use native.Mathlib.Omega.{arith}
 use Rattle.stability.specs.Verdict.{angles_below, stretch_of}
-use Rattle.stability.proofs.Stretch.{below_found, below_next, below_none}
 use Rattle.stability.proofs.stretch_of.Given as goal
 
 abbrev pub invariant-loop-n : goal.invariant-loop-n

@@ -1,5 +1,4 @@
 -- `class_of`: the class of a byte, by which a line is gone through.
-use borrow.Author.Rules.{rules}
 use mathlib.Core.Path.{◌≡◌}
 use mathlib.Core.Bool.{true, false, ◌||◌}
 use lib.Dec.{eqb}

@@ -1,10 +1,7 @@
 -- `digits_of`: the number that digits say, a zero in front or not.
 use borrow.Author.Rules.{rules}
-use Rattle.text.specs.Places.{digits_from}
-use Prim.Native.Nat.{◌≤◌, ◌-◌}
 use native.Mathlib.Omega.{arith}
-use mathlib.Core.Path.{◌≡◌, sym, ◌∙◌}
-use lib.ListN.{length, drop}
+use mathlib.Core.Path.{sym, ◌∙◌}
 use Rattle.whole.proofs.Lists.{within_true}
 use Rattle.text.proofs.Numbers.{digits_out, digits_bad, digits_on, digits_large}
 use Rattle.text.proofs.digits_of.Goals as goal

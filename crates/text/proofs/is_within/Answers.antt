@@ -1,6 +1,5 @@
 -- `is_within`: whether lo <= b <= hi.
 use Rattle.whole.specs.Lists.{within}
-use borrow.Author.Rules.{rules}
 use Rattle.text.proofs.is_within.Goals as goal
 
 pub returns : goal.returns

@@ -4,7 +4,6 @@ use Rattle.text.specs.declared.Next.TheVariants.{Run}
 use Rattle.text.proofs.Runs.{next_end, next_open, next_close, next_run}
 use Rattle.text.proofs.Scans.{stands, asked_runs, asked_gaps}
 use native.Mathlib.Omega.{arith}
-use borrow.Author.Rules.{rules}
 use Rattle.text.proofs.next_at.Goals as goal
 
 pub returns-then-s-p : goal.returns-then-s-p

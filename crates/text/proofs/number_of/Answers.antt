@@ -2,7 +2,6 @@
 use mathlib.Core.Path.{sym, ◌∙◌}
 use native.Mathlib.Omega.{arith}
 use Rattle.text.proofs.Numbers.{number_none, number_digits, number_zeros}
-use borrow.Author.Rules.{rules}
 use Rattle.text.proofs.number_of.Goals as goal
 
 pub returns-then-run-eq0 : goal.returns-then-run-eq0

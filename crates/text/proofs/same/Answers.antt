@@ -1,11 +1,7 @@
 -- `same`: whether two runs have the same bytes.
-use Rattle.text.specs.Token.{same}
 use Rattle.text.proofs.Runs.{same_short, same_not, same_more, same_last}
-use Prim.Native.Nat.{◌≤◌, ◌-◌}
 use native.Mathlib.Omega.{arith}
-use mathlib.Core.Path.{◌≡◌, sym, ◌∙◌}
-use lib.ListN.{length, drop}
-use borrow.Author.Rules.{rules}
+use mathlib.Core.Path.{sym, ◌∙◌}
 use Rattle.text.proofs.same.Goals as goal
 
 pub returns-then-b-i : goal.returns-then-b-i

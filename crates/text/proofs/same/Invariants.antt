@@ -1,11 +1,8 @@
 -- `same`: whether two runs have the same bytes.
 use Rattle.text.specs.Token.{same}
-use Rattle.text.proofs.Runs.{same_short, same_not, same_more, same_last}
 use Prim.Native.Nat.{◌≤◌, ◌-◌}
-use native.Mathlib.Omega.{arith}
-use mathlib.Core.Path.{◌≡◌, sym, ◌∙◌}
+use mathlib.Core.Path.{◌≡◌}
 use lib.ListN.{length, drop}
-use borrow.Author.Rules.{rules}
 use Rattle.text.proofs.same.Given as goal
 
 abbrev pub invariant-loop-i : goal.invariant-loop-i

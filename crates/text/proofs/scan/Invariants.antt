@@ -1,12 +1,9 @@
 -- `scan`: the place behind the bytes of the classes asked for that stand at `at`.
-use borrow.Author.Rules.{rules}
 use mathlib.Core.Path.{◌≡◌}
 use Prim.Native.Nat.{◌≤◌, ◌-◌, ◌+◌}
-use native.Mathlib.Omega.{arith}
 use lib.ListN.{length, drop}
 use Rattle.text.specs.Token.{prefix}
 use Rattle.text.specs.Places.{of_class}
-use Rattle.text.proofs.Scans.{scan_on, scan_off, scan_out, class_in, class_out}
 use Rattle.text.proofs.scan.Given as goal
 
 abbrev pub invariant-loop-i : goal.invariant-loop-i

@@ -2,7 +2,6 @@
 use mathlib.Core.Path.{◌≡◌, sym}
 use native.Mathlib.Nat.{zero-mul, zero-div, zero-mod}
 use Rattle.whole.proofs.Dividing.{halved_quotient, halved_rest, halved_fits, quotient_le}
-use borrow.Author.Rules.{rules}
 use native.Mathlib.Omega.{arith}
 use Prim.Native.Nat.{ℕ, ◌<◌, ◌≤◌, ◌+◌, ◌*◌, ◌/◌, ◌%◌}
 use Rattle.whole.proofs.+divide_product.Goals as goal

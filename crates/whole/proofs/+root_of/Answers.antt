@@ -1,8 +1,6 @@
 -- `root_of`: the whole part of the root of x, by halving: the root of a quarter of x, doubled, lacks one binary digit.
 use native.Mathlib.Omega.{arith}
-use borrow.Author.Rules.{rules}
 use Rattle.whole.proofs.Roots.{quarter_small, digit_fits, root_zero, root_odd, root_even}
-use Prim.Native.Nat.{ℕ, ◌<◌}
 use Rattle.whole.proofs.+root_of.Goals as goal
 
 pub returns-then-x-eq0 : goal.returns-then-x-eq0

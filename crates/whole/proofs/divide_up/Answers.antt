@@ -1,6 +1,5 @@
 -- `divide_up`: n / d, rounded up.
 use mathlib.Core.Path.{refl}
-use borrow.Author.Rules.{rules}
 use Rattle.whole.proofs.divide_up.Goals as goal
 
 pub returns : goal.returns

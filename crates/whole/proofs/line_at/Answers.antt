@@ -8,7 +8,6 @@ use borrow.Author.Rules.{sfits_of}
 use native.Mathlib.Omega.{arith}
 use Rattle.sign.specs.Sign.{plus, minus}
 use Rattle.whole.proofs.Lines.{line_le}
-use borrow.Author.Rules.{rules}
 use Rattle.whole.proofs.line_at.Goals as goal
 
 pub on_line-p-requires : goal.on_line-p-requires

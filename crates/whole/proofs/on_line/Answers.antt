@@ -1,7 +1,6 @@
 -- `on_line`: h times the value at t of h on the straight line from x to y.
 use native.Mathlib.Omega.{arith}
 use Rattle.whole.proofs.Lines.{terms_le}
-use borrow.Author.Rules.{rules}
 use Rattle.whole.proofs.on_line.Goals as goal
 
 pub overflow_mul-result : goal.overflow_mul-result

@@ -8,7 +8,6 @@ use mir.Syntax.{w64}
 use borrow.Author.Rules.{sfits_of}
 use native.Mathlib.Omega.{arith}
 use Rattle.whole.proofs.Lines.{rounded_pos, rounded_neg}
-use borrow.Author.Rules.{rules}
 use Rattle.whole.proofs.rounded_down.Goals as goal
 
 pub difference-requires : goal.difference-requires
