@@ -1,7 +1,6 @@
 -- What the step to a tenth of a mm and the step to a whole mm² cost a yard.
 use mathlib.Core.Path.{sym, subst}
-use Prim.Native.Nat.{ℕ, ◌+◌, ◌*◌, ◌≤◌, ◌<◌}
-use native.Mathlib.Nat.{mul-le-mul_left}
+use Prim.Native.Nat.{ℕ, ◌+◌, ◌*◌}
 use native.Mathlib.Omega.{arith}
 use Rattle.whole.specs.Divide.{ceil_div}
 use Rattle.whole.proofs.Dividing.{ceil_low, ceil_high}

@@ -1,13 +1,7 @@
 -- `take_lines`: takes the lines of a block from `at` on: up to the last that byte 10 ends, while lines are left and there is room for a ..
-use mathlib.Core.Path.{◌≡◌, refl, sym, ◌∙◌}
-use Prim.Native.Nat.{◌-◌}
-use native.Mathlib.Omega.{arith}
+use mathlib.Core.Path.{◌≡◌}
 use lib.ListN.{length}
-use Rattle.panel.proofs.Answers.{answer_kept, answer_effect}
-use Rattle.input.specs.Lines.{between}
-use Rattle.input.proofs.Cutting.{no_line}
-use Rattle.lines.proofs.Pieces.{TakingAt, taking_first, taking_line, taking_ends}
-use borrow.Author.Rules.{rules}
+use Rattle.lines.proofs.Pieces.{TakingAt}
 use Rattle.lines.proofs.take_lines.Given as goal
 
 abbrev pub invariant-loop-left : goal.invariant-loop-left

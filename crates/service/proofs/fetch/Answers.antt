@@ -1,6 +1,5 @@
 -- `fetch`: reads once, at most `most` bytes; an interrupted read is repeated.
-use mathlib.Core.Path.{◌≡◌, sym}
-use Prim.Native.Nat.{◌≤◌}
+use mathlib.Core.Path.{sym}
 use native.Mathlib.Omega.{arith}
 use lib.Seq.{length-take-le}
 use Rattle.service.proofs.fetch.Goals as goal

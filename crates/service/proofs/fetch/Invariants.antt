@@ -1,10 +1,7 @@
 -- `fetch`: reads once, at most `most` bytes; an interrupted read is repeated.
-use mathlib.Core.Path.{◌≡◌, sym}
+use mathlib.Core.Path.{◌≡◌}
 use Prim.Native.Nat.{◌≤◌}
-use native.Mathlib.Omega.{arith}
 use lib.ListN.{length}
-use lib.Seq.{length-take-le}
-use borrow.Author.Rules.{rules}
 use Rattle.service.proofs.fetch.Given as goal
 
 abbrev pub invariant-loop-tries : goal.invariant-loop-tries

@@ -1,7 +1,6 @@
 -- `write_out`: writes all of a slice; an interrupted write is repeated.
-use Prim.Native.Nat.{◌≤◌, ◌-◌}
+use Prim.Native.Nat.{◌≤◌}
 use lib.ListN.{length}
-use borrow.Author.Rules.{rules}
 use Rattle.service.proofs.write_out.Given as goal
 
 abbrev pub invariant-loop-tries : goal.invariant-loop-tries
