@@ -34,7 +34,7 @@ def read(p):
 
 
 def snake(name):
-    name = re.sub(r"(?<=[a-z0-9?])(?=[A-Z])", "_", name.replace("-", "_"))
+    name = re.sub(r"(?<=[a-z0-9?])(?=[A-Z])|(?<=[A-Z])(?=[A-Z][a-z])", "_", name.replace("-", "_"))
     return name.lower()
 
 

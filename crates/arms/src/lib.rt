@@ -116,8 +116,8 @@ fn heels(n: u64, d: u64) -> u64
 fn righting_at(b: Basis, k: usize) -> i64
     requires { Judgeable b × (k < 10) }
     ensures value { result ≡ righting_arm b k }
-    ensures result_bound { plus result ≤ 2 ^ 26 }
-    ensures result_bound_2 { minus result ≤ 2 ^ 26 }
+    ensures plus_bound { plus result ≤ 2 ^ 26 }
+    ensures minus_bound { minus result ≤ 2 ^ 26 }
 {
     let low = b.low;
     let high = b.high;

@@ -186,7 +186,7 @@ pub record Demands : Type 0 where
   pub first_run : FirstRun
   pub second_run : SecondRun
   pub deck_run : DeckRun
-  pub shows_aform : ShowsAForm
+  pub shows_a_form : ShowsAForm
   pub shows_the_form : ShowsTheForm
   pub shapes_are_four_deep : ShapesAreFourDeep
   pub show_run : ShowRun

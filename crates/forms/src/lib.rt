@@ -6,7 +6,7 @@ ghost use Rattle.text.specs.Token.{tokens};
 ghost use Rattle.items.specs.Carried.{carry};
 ghost use Rattle.items.specs.Places.{Ends};
 ghost use Rattle.forms.specs.Shape.{rule_named, rule_of, ship?, column?, load?, mode_named, parts?, hold?, drop?, bare?, form_word, form_by};
-ghost use Rattle.forms.specs.Shape.{plain as Shape·plain};
+ghost use Rattle.forms.specs.Shape.{plain};
 ghost use Rattle.forms.specs.Carried.{carried_request};
 
 use items::{Item, Place, Size, Span};
@@ -80,7 +80,7 @@ pub struct Form {
 
 // A request without hold or column.
 pub fn plain(kind: Kind) -> Request
-    ensures { result ≡ Shape·plain kind }
+    ensures { result ≡ plain kind }
 {
     Request {
         kind,
@@ -91,7 +91,7 @@ pub fn plain(kind: Kind) -> Request
 
 // Where no form was read.
 pub fn no_form() -> Form
-    ensures request_value { result.request ≡ Shape·plain Kind.NoShape }
+    ensures request_value { result.request ≡ plain Kind.NoShape }
     ensures end_value { result.end ≡ Place.Nowhere }
 {
     Form {

@@ -44,8 +44,8 @@ fn behind(block: &[u8], at: usize) -> usize
 
 // One line and what was heard of it: its reply goes behind those that wait.
 fn answer_line(c: Condition, line: &[u8], h: Heard, out: &mut [u8], filled: usize) -> Replied
-    requires h_value { h ≡ heard_of line.now }
-    requires filled_bound { (filled + 2100 ≤ 65536) × (length out.old ≡ 65536) }
+    requires heard { h ≡ heard_of line.now }
+    requires room { (filled + 2100 ≤ 65536) × (length out.old ≡ 65536) }
     ensures { RepliedBehind (step_of c line.now 2100) (moment_found h.request) result filled out.old out.new }
 {
     panel::answer(c, line, h, &mut out[filled..])

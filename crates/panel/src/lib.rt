@@ -108,8 +108,8 @@ fn give_verdict(c: Condition, out: &mut [u8]) -> Replied
 
 // Show replies with the form inside it; 16 where fewer than 2,100 bytes are lent.
 fn show_form(line: &[u8], out: &mut [u8]) -> Replied
-    requires line_value { (request_of (tokens line.now)).kind ≡ ShowLine }
-    requires line_len_bound { (length line.now ≤ 2000) × (96 ≤ length out.old) }
+    requires is_show { (request_of (tokens line.now)).kind ≡ ShowLine }
+    requires room { (length line.now ≤ 2000) × (96 ≤ length out.old) }
     ensures { Replies (show_code (length out.old)) (show_answer (tokens line.now) (length out.old)) 0 result out.old out.new }
 {
     if out.len() < SHOW_ROOM {
@@ -125,8 +125,8 @@ fn show_form(line: &[u8], out: &mut [u8]) -> Replied
 
 // The reply to the request of a line.
 fn reply_to(c: Condition, line: &[u8], r: Request, out: &mut [u8]) -> Replied
-    requires r_value { r ≡ carried_request (request_of (tokens line.now)) }
-    requires line_len_bound { (length line.now ≤ 2000) × (96 ≤ length out.old) }
+    requires asked { r ≡ carried_request (request_of (tokens line.now)) }
+    requires room { (length line.now ≤ 2000) × (96 ≤ length out.old) }
     ensures { Replies (outcome_of c (tokens line.now) (length out.old) r).code (outcome_of c (tokens line.now) (length out.old) r).reply (moment_found r) result out.old out.new }
 {
     let kind = r.kind;

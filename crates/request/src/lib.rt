@@ -6,10 +6,10 @@ ghost use Rattle.text.specs.Token.{tokens};
 ghost use Rattle.items.specs.Carried.{carry};
 ghost use Rattle.items.specs.Grammar.{named, whole?};
 ghost use Rattle.items.specs.Places.{Ends};
-ghost use Rattle.forms.specs.Shape.{plain as Shape·plain, bare?};
+ghost use Rattle.forms.specs.Shape.{plain, bare?};
 ghost use Rattle.forms.specs.Carried.{carried_request};
 ghost use Rattle.request.specs.Shape.{weight?, weighed?, line_words, request_of};
-ghost use Rattle.request.specs.Shape.{line_by as Shape·line_by};
+ghost use Rattle.request.specs.Shape.{line_by};
 ghost use Rattle.request.specs.Word.{word?, WordIs, line_named};
 
 use forms::{Form, FormWord, Kind, Request};
@@ -117,7 +117,7 @@ fn weighed_at(s: &[u8], at: usize) -> Form
 // What stands behind a line's word.
 fn line_by(s: &[u8], at: usize, word: LineWord) -> Form
     requires { at ≤ length s.now }
-    ensures { Ends (carry carried_request (Shape·line_by word (tokens (drop at s.now)))) s.now result.request result.end }
+    ensures { Ends (carry carried_request (line_by word (tokens (drop at s.now)))) s.now result.request result.end }
 {
     match word {
         LineWord::OfForm(form) => forms::form_by(s, at, form),
@@ -131,7 +131,7 @@ fn line_by(s: &[u8], at: usize, word: LineWord) -> Form
 // The request of a show line, from behind the form inside it: the show's own bracket must follow, and end the line. The form's record is not kept.
 fn show_request(s: &[u8], at: usize) -> Request
     requires { at ≤ length s.now }
-    ensures { result ≡ whole? (bare? Kind.ShowLine (tokens (drop at s.now))) (Shape·plain Kind.NoShape) }
+    ensures { result ≡ whole? (bare? Kind.ShowLine (tokens (drop at s.now))) (plain Kind.NoShape) }
 {
     let Place::At(q) = items::close_at(s, at) else {
         return forms::plain(Kind::NoShape);

@@ -13,8 +13,8 @@ use items::Span;
 // The form inside a show line, in the one spelling, and a newline, over the front of a buffer. What stands behind the word `show` is spelled,
 // and its last byte, the bracket that closes the line, gives way to the newline.
 pub fn show(line: &[u8], out: &mut [u8]) -> usize
-    requires line_value { (request_of (tokens line.now)).kind ≡ ShowLine }
-    requires line_len_bound { (length line.now ≤ 2000) × (2100 ≤ length out.old) }
+    requires is_show { (request_of (tokens line.now)).kind ≡ ShowLine }
+    requires room { (length line.now ≤ 2000) × (2100 ≤ length out.old) }
     ensures value { result ≡ length (show_reply (tokens line.now)) }
     ensures out_after { out.new ≡ over (show_reply (tokens line.now)) out.old }
 {

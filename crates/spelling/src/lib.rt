@@ -5,7 +5,7 @@ ghost use Rattle.std.specs.Prelude.{◌≡◌, ◌++◌, ◌+◌, ◌≤◌, len
 ghost use Rattle.text.specs.Token.{tokens};
 ghost use Rattle.reply.specs.Written.{over, into};
 ghost use Rattle.spelling.specs.Spelling.{space_if};
-ghost use Rattle.spelling.specs.Spelling.{spell as Spelling·spell};
+ghost use Rattle.spelling.specs.Spelling.{spell};
 
 use text::Next;
 
@@ -24,9 +24,9 @@ fn add(out: &mut [u8], at: usize, apart: bool, w: &[u8]) -> usize
 
 // The tokens of a line in the one spelling, over the front of a buffer: token by token, with the space in front of each.
 pub fn spell(s: &[u8], out: &mut [u8]) -> usize
-    requires { length (Spelling·spell (tokens s.now)) ≤ length out.old }
-    ensures value { result ≡ length (Spelling·spell (tokens s.now)) }
-    ensures out_after { out.new ≡ over (Spelling·spell (tokens s.now)) out.old }
+    requires { length (spell (tokens s.now)) ≤ length out.old }
+    ensures value { result ≡ length (spell (tokens s.now)) }
+    ensures out_after { out.new ≡ over (spell (tokens s.now)) out.old }
 {
     let mut p = 0;
     let mut w = 0;

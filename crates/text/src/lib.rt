@@ -4,7 +4,7 @@
 ghost use Rattle.std.specs.Prelude.{◌≡◌, ◌+◌, ◌-◌, ◌≤◌, length, take, drop};
 ghost use Rattle.whole.specs.Lists.{within};
 ghost use Rattle.text.specs.Token.{is_digit, number_of};
-ghost use Rattle.text.specs.Token.{same as Token·same};
+ghost use Rattle.text.specs.Token.{same};
 ghost use Rattle.text.specs.Token.{prefix};
 ghost use Rattle.text.specs.Places.{class_of, of_class, digits_from, next_of};
 
@@ -128,7 +128,7 @@ pub fn run_of<'a>(s: &'a [u8], from: usize, to: usize) -> &'a [u8]
 
 // Whether two runs have the same bytes.
 pub fn same(a: &[u8], b: &[u8]) -> bool
-    ensures { result ≡ Token·same a.now b.now }
+    ensures { result ≡ same a.now b.now }
 {
     let mut i = 0;
     while i < a.len() {

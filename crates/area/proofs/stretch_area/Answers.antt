@@ -35,12 +35,11 @@ full_area-requires c =
 
 pub returns-then-to-upper : goal.returns-then-to-upper
 returns-then-to-upper c =
-    let angle-at = c.angle_at-from in
     let k = c.args.k in
     let u = c.args.upper in
     let ds = c.args.ds in
     let z = c.angle_at-to.ensures ∙ ap angle (add-one k) in
-    let w = width_between k angle-at.ensures c.angle_at-to.ensures in
+    let w = width_between k c.angle_at-from.ensures c.angle_at-to.ensures in
     let x = to_z-of_z {w = w64} {z = get_or ds k (pos 0)} (sfits_of c.d-1.given) in
     let y = to_z-of_z {w = w64} {z = get_or ds (k + 1) (pos 0)} (sfits_of c.e-1.given) in
     let ends = both_bounds ds k c.requires.0 c.requires.1 in
@@ -66,17 +65,16 @@ part_area-requires c =
 
 pub returns : goal.returns
 returns c =
-    let angle-at = c.angle_at-from in
     let k = c.args.k in
     let u = c.args.upper in
     let ds = c.args.ds in
-    let a = angle-at.ensures in
+    let a = c.angle_at-from.ensures in
     let z = c.angle_at-to.ensures ∙ ap angle (add-one k) in
-    let w = width_between k angle-at.ensures c.angle_at-to.ensures in
+    let w = width_between k c.angle_at-from.ensures c.angle_at-to.ensures in
     let x = to_z-of_z {w = w64} {z = get_or ds k (pos 0)} (sfits_of c.d-1.given) in
     let y = to_z-of_z {w = w64} {z = get_or ds (k + 1) (pos 0)} (sfits_of c.e-1.given) in
     let ends = both_bounds ds k c.requires.0 c.requires.1 in
     let h : u < angle (suc k) = omega (arith, c.if-to-upper.false) in
-    let v : u - angle-at.result ≡ u - angle k = ap (λ n. u - n) a in
+    let v : u - c.angle_at-from.result ≡ u - angle k = ap (λ n. u - n) a in
     let e : c.part_area.result ≡ part_area (width k) (u - angle k) (get_or ds k (pos 0)) (get_or ds (k + 1) (pos 0)) = c.part_area.ensures ∙ rw (x, y, w, v) refl in
     record { value = e ∙ rw (add-one k, counted_part u k h) refl; upper_bound = omega (arith, part_le (width k) (u - angle k) (get_or ds k (pos 0)) (get_or ds (k + 1) (pos 0)) (omega arith) (width_some k c.requires.1) (width_le k c.requires.1) ends.0 ends.1) }

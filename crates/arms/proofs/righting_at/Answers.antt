@@ -57,4 +57,4 @@ returns c =
     let kg : c.divide_up-kg.result ≡ kg_arm q k = rw (c.divide_up-kg.ensures, r.fluid, c.sine_at.ensures) refl in
     let e = to_z-of_z {w = w64} (sfits_of c.difference.type_inv) ∙ c.difference.ensures ∙ ap₂ sub_ℕ kn kg in
     let z = sub_reads (kn_arm q k) (kg_arm q k) in
-    record { value = e; result_bound = omega (arith, ap plus e, z.pluses, kn_le q j k c.requires.1); result_bound_2 = omega (arith, ap minus e, z.minuses, kg_le q j k c.requires.1) }
+    record { value = e; plus_bound = omega (arith, ap plus e, z.pluses, kn_le q j k c.requires.1); minus_bound = omega (arith, ap minus e, z.minuses, kg_le q j k c.requires.1) }

@@ -21,6 +21,5 @@ whole_area-requires c = tenths_small c.width_of-width.result c.depth_of.result (
 pub returns : goal.returns
 unfolding cell_area
 returns c =
-    let lip-of = c.lip_of-lip in
     let width_of_lem = c.width_of-width in
-    rw (c.most_held.ensures, c.whole_area.ensures, c.depth_of.ensures.value, lip-of.ensures, width_of_lem.ensures) refl
+    rw (c.most_held.ensures, c.whole_area.ensures, c.depth_of.ensures.value, c.lip_of-lip.ensures, width_of_lem.ensures) refl

@@ -32,19 +32,17 @@ returns-then-n-eq0 c =
 pub returns-then-last-k : goal.returns-then-last-k
 returns-then-last-k c =
     let if1 = c.if-not-column_limits in
-    let column-limits = c.column_limits in
     let a = c.args in
     let l : length a.cs.places ≡ 20 = search (unmapped, rules) in
-    let good : column_limits a.k ≡ true = sym column-limits.ensures ∙ if1.false in
+    let good : column_limits a.k ≡ true = sym c.column_limits.ensures ∙ if1.false in
     answer_above (held a.cs) a.k good true (omega (arith, length-take a.cs.count a.cs.places))
     (above_last a.k.d a.cs.places a.cs.count past_column (omega arith) (omega arith) ∙ lt-ltb _ _ c.if-last-k.true)
 
 pub returns-else-last-k : goal.returns-else-last-k
 returns-else-last-k c =
     let if1 = c.if-not-column_limits in
-    let column-limits = c.column_limits in
     let a = c.args in
     let l : length a.cs.places ≡ 20 = search (unmapped, rules) in
-    let good : column_limits a.k ≡ true = sym column-limits.ensures ∙ if1.false in
+    let good : column_limits a.k ≡ true = sym c.column_limits.ensures ∙ if1.false in
     answer_above (held a.cs) a.k good false (omega (arith, length-take a.cs.count a.cs.places))
     (above_last a.k.d a.cs.places a.cs.count past_column (omega arith) (omega arith) ∙ le-ltb _ _ c.if-last-k.false)

@@ -41,7 +41,6 @@ returns-then-n-i c =
 
 pub returns-then-m-k : goal.returns-then-m-k
 returns-then-m-k c =
-    let column-limits = c.column_limits in
     let loop = c.loop-i in
     let args = c.args in
     let cs = args.cs in
@@ -51,13 +50,12 @@ returns-then-m-k c =
     let k = get_or-take cs.count cs.places i past_column b in
     let b2 : i + 1 < cs.count = omega (arith, v.1, length-take cs.count cs.places) in
     let k2 = get_or-take cs.count cs.places (i + 1) past_column b2 in
-    let good = ap column_limits k ∙ sym column-limits.ensures ∙ c.if-not-column_limits.false in
+    let good = ap column_limits k ∙ sym c.column_limits.ensures ∙ c.if-not-column_limits.false in
     let e = c.if-m-k.true in
     order_not_above (held cs) i past_column v.4 (omega arith) good (omega arith) (rw (k, k2) e)
 
 pub loop-i-preserved : goal.loop-i-preserved
 loop-i-preserved c =
-    let column-limits = c.column_limits in
     let loop = c.loop-i in
     let args = c.args in
     let cs = args.cs in
@@ -67,7 +65,7 @@ loop-i-preserved c =
     let k = get_or-take cs.count cs.places i past_column b in
     let b2 : i + 1 < cs.count = omega (arith, v.1, length-take cs.count cs.places) in
     let k2 = get_or-take cs.count cs.places (i + 1) past_column b2 in
-    let good = ap column_limits k ∙ sym column-limits.ensures ∙ c.if-not-column_limits.false in
+    let good = ap column_limits k ∙ sym c.column_limits.ensures ∙ c.if-not-column_limits.false in
     let e = c.if-m-k.false in
     (v.0, v.1, v.2, omega arith, order_next (held cs) i past_column v.4 (omega arith) good (omega arith) (rw (k, k2) e))
 

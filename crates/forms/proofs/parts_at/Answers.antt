@@ -29,19 +29,16 @@ part_list_at-t-requires c =
 pub returns-then-count-eq0 : goal.returns-then-count-eq0
 unfolding parts?
 returns-then-count-eq0 c =
-    let size-at = c.size_at in
     let args = c.args in
-    let n = rw c.in-Kept.is at size-at.ensures in
+    let n = rw c.in-Kept.is at c.size_at.ensures in
     let i = carries carried (number? (tokens (drop args.at args.s.now))) c.in-Kept.factor (tokens (drop c.in-Kept.q args.s.now)) n.0 in
     rw (c.no_form-then-count-eq0.ensures.end_value, i.is) (no_items carried_request (λ xs. hold_request args.n (hold_record args.mode i.read xs)) carried_part (items? 6 (part? args.mode) (tokens (drop c.in-Kept.q args.s.now))) args.s.now 6 no_part c.part_list_at-t.result.count c.part_list_at-t.result.parts c.part_list_at-t.result.end c.part_list_at-t.ensures c.if-count-eq0.true)
 
 pub returns : goal.returns
 unfolding parts?
 returns c =
-    let part-list-at = c.part_list_at-t in
-    let size-at = c.size_at in
     let args = c.args in
-    let n = rw c.in-Kept.is at size-at.ensures in
+    let n = rw c.in-Kept.is at c.size_at.ensures in
     let i = carries carried (number? (tokens (drop args.at args.s.now))) c.in-Kept.factor (tokens (drop c.in-Kept.q args.s.now)) n.0 in
-    rw i.is (some_items carried_request (λ xs. hold_request args.n (hold_record args.mode i.read xs)) carried_part (items? 6 (part? args.mode) (tokens (drop c.in-Kept.q args.s.now))) args.s.now 6 no_part part-list-at.result.count part-list-at.result.parts _ part-list-at.result.end part-list-at.ensures (omega arith)
+    rw i.is (some_items carried_request (λ xs. hold_request args.n (hold_record args.mode i.read xs)) carried_part (items? 6 (part? args.mode) (tokens (drop c.in-Kept.q args.s.now))) args.s.now 6 no_part c.part_list_at-t.result.count c.part_list_at-t.result.parts _ c.part_list_at-t.result.end c.part_list_at-t.ensures (omega arith)
     (λ xs l e. hold_kept args.n args.mode i.read xs ∙ rw (c.no_column.ensures, ← i.kept, l, ← e)))

@@ -29,69 +29,59 @@ returns-in_default c =
 pub overflow_mul-sum : goal.overflow_mul-sum
 unfolding parts_answer
 overflow_mul-sum c =
-    let parts-moment = c.parts_moment in
     let if1 = c.if-not-hold_limits in
-    let hold-limits = c.hold_limits in
     let args = c.args in
     let h = args.h in
-    let good : hold_limits h ≡ true = sym hold-limits.ensures ∙ if1.false in
+    let good : hold_limits h ≡ true = sym c.hold_limits.ensures ∙ if1.false in
     let w = hold_within h good in
-    let t = moment_of_lem (hold_fits h) (sum_of (part_moment h.head.mode) (parts_of h)) c.in-Moment.sum (sym c.in-Moment.is ∙ parts-moment.ensures) in
+    let t = moment_of_lem (hold_fits h) (sum_of (part_moment h.head.mode) (parts_of h)) c.in-Moment.sum (sym c.in-Moment.is ∙ c.parts_moment.ensures) in
     let s : c.in-Moment.sum ≤ 2 ^ 33 = omega (arith, parts_le h w, t.1) in
     omega (arith, mul-le-mul s c.percentage_of.ensures.upper_bound, w.factor.low, w.factor.high)
 
 pub divide_up-moment-requires : goal.divide_up-moment-requires
 unfolding parts_answer
 divide_up-moment-requires c =
-    let parts-moment = c.parts_moment in
     let if1 = c.if-not-hold_limits in
-    let hold-limits = c.hold_limits in
     let args = c.args in
     let h = args.h in
-    let good : hold_limits h ≡ true = sym hold-limits.ensures ∙ if1.false in
+    let good : hold_limits h ≡ true = sym c.hold_limits.ensures ∙ if1.false in
     let w = hold_within h good in
-    let t = moment_of_lem (hold_fits h) (sum_of (part_moment h.head.mode) (parts_of h)) c.in-Moment.sum (sym c.in-Moment.is ∙ parts-moment.ensures) in
+    let t = moment_of_lem (hold_fits h) (sum_of (part_moment h.head.mode) (parts_of h)) c.in-Moment.sum (sym c.in-Moment.is ∙ c.parts_moment.ensures) in
     let s : c.in-Moment.sum ≤ 2 ^ 33 = omega (arith, parts_le h w, t.1) in
     omega (arith, mul-le-mul s c.percentage_of.ensures.upper_bound, w.factor.low, w.factor.high)
 
 pub overflow_mul-moment : goal.overflow_mul-moment
 unfolding parts_answer
 overflow_mul-moment c =
-    let parts-moment = c.parts_moment in
     let if1 = c.if-not-hold_limits in
-    let hold-limits = c.hold_limits in
     let args = c.args in
     let h = args.h in
-    let good : hold_limits h ≡ true = sym hold-limits.ensures ∙ if1.false in
+    let good : hold_limits h ≡ true = sym c.hold_limits.ensures ∙ if1.false in
     let w = hold_within h good in
-    let t = moment_of_lem (hold_fits h) (sum_of (part_moment h.head.mode) (parts_of h)) c.in-Moment.sum (sym c.in-Moment.is ∙ parts-moment.ensures) in
+    let t = moment_of_lem (hold_fits h) (sum_of (part_moment h.head.mode) (parts_of h)) c.in-Moment.sum (sym c.in-Moment.is ∙ c.parts_moment.ensures) in
     let s : c.in-Moment.sum ≤ 2 ^ 33 = omega (arith, parts_le h w, t.1) in
     omega (arith, mul-le-mul s c.percentage_of.ensures.upper_bound, w.factor.low, w.factor.high)
 
 pub divide_up-requires : goal.divide_up-requires
 unfolding parts_answer
 divide_up-requires c =
-    let parts-moment = c.parts_moment in
     let if1 = c.if-not-hold_limits in
-    let hold-limits = c.hold_limits in
     let args = c.args in
     let h = args.h in
-    let good : hold_limits h ≡ true = sym hold-limits.ensures ∙ if1.false in
+    let good : hold_limits h ≡ true = sym c.hold_limits.ensures ∙ if1.false in
     let w = hold_within h good in
-    let t = moment_of_lem (hold_fits h) (sum_of (part_moment h.head.mode) (parts_of h)) c.in-Moment.sum (sym c.in-Moment.is ∙ parts-moment.ensures) in
+    let t = moment_of_lem (hold_fits h) (sum_of (part_moment h.head.mode) (parts_of h)) c.in-Moment.sum (sym c.in-Moment.is ∙ c.parts_moment.ensures) in
     let s : c.in-Moment.sum ≤ 2 ^ 33 = omega (arith, parts_le h w, t.1) in
     omega (arith, mul-le-mul s c.percentage_of.ensures.upper_bound, w.factor.low, w.factor.high)
 
 pub returns : goal.returns
 unfolding weighed_of weight_moment hold_moment parts_answer
 returns c =
-    let parts-moment = c.parts_moment in
     let if1 = c.if-not-hold_limits in
-    let hold-limits = c.hold_limits in
     let args = c.args in
     let h = args.h in
-    let good : hold_limits h ≡ true = sym hold-limits.ensures ∙ if1.false in
+    let good : hold_limits h ≡ true = sym c.hold_limits.ensures ∙ if1.false in
     let w = hold_within h good in
-    let t = moment_of_lem (hold_fits h) (sum_of (part_moment h.head.mode) (parts_of h)) c.in-Moment.sum (sym c.in-Moment.is ∙ parts-moment.ensures) in
+    let t = moment_of_lem (hold_fits h) (sum_of (part_moment h.head.mode) (parts_of h)) c.in-Moment.sum (sym c.in-Moment.is ∙ c.parts_moment.ensures) in
     let s : c.in-Moment.sum ≤ 2 ^ 33 = omega (arith, parts_le h w, t.1) in
     rw (good, t.0, c.divide_up.ensures, c.divide_up-moment.ensures, c.percentage_of.ensures.value, t.1) refl

@@ -24,12 +24,11 @@ returns-then-block-second-eq10 c =
 
 pub returns-then-block-third-eq10 : goal.returns-then-block-third-eq10
 returns-then-block-third-eq10 c =
-    let loop-test = c.loop-e-test in
     let loop = c.loop-e in
     let args = c.args in
     let s = args.block.now in
     let i = loop.e in
-    let n = loop-test.true in
+    let n = c.loop-e-test.true in
     let z1 = line_on s (i) (omega arith) c.if-block-e-eq10.false in
     let z2 = line_on s (i + 1) (omega arith) c.if-block-second-eq10.false in
     let z = line_stop s (i + 1 + 1) (omega arith) c.if-block-third-eq10.true in
@@ -38,12 +37,11 @@ returns-then-block-third-eq10 c =
 pub returns-then-block-fourth-eq10 : goal.returns-then-block-fourth-eq10
 returns-then-block-fourth-eq10 c =
     let if1 = c.if-block-e-eq10 in
-    let loop-test = c.loop-e-test in
     let loop = c.loop-e in
     let args = c.args in
     let s = args.block.now in
     let i = loop.e in
-    let n = loop-test.true in
+    let n = c.loop-e-test.true in
     let z1 = line_on s (i) (omega arith) if1.false in
     let z2 = line_on s (i + 1) (omega arith) c.if-block-second-eq10.false in
     let z3 = line_on s (i + 1 + 1) (omega arith) c.if-block-third-eq10.false in
@@ -53,12 +51,11 @@ returns-then-block-fourth-eq10 c =
 pub loop-e-preserved : goal.loop-e-preserved
 loop-e-preserved c =
     let if1 = c.if-block-e-eq10 in
-    let loop-test = c.loop-e-test in
     let loop = c.loop-e in
     let args = c.args in
     let s = args.block.now in
     let i = loop.e in
-    let n = loop-test.true in
+    let n = c.loop-e-test.true in
     let z1 = line_on s (i) (omega arith) if1.false in
     let z2 = line_on s (i + 1) (omega arith) c.if-block-second-eq10.false in
     let z3 = line_on s (i + 1 + 1) (omega arith) c.if-block-third-eq10.false in

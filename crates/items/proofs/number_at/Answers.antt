@@ -16,15 +16,13 @@ run_of-requires c =
 pub returns-in_default-number_of : goal.returns-in_default-number_of
 unfolding number?
 returns-in_default-number_of c =
-    let span-at = c.span_at in
-    let n = rw c.in-From.is at span-at.ensures in
+    let n = rw c.in-From.is at c.span_at.ensures in
     let f = ap number_of (sym c.run_of.ensures) ∙ sym c.number_of.ensures ∙ c.in_default-number_of.is in
     rw (n.0.0, f)
 
 pub returns : goal.returns
 unfolding number?
 returns c =
-    let span-at = c.span_at in
-    let n = rw c.in-From.is at span-at.ensures in
+    let n = rw c.in-From.is at c.span_at.ensures in
     let f = ap number_of (sym c.run_of.ensures) ∙ sym c.number_of.ensures ∙ c.in-Is.is in
     (rw (n.0.0, f), n.0.1)

@@ -13,7 +13,7 @@ use Rattle.lines.proofs.answer_line.Goals as goal
 pub returns : goal.returns
 returns c =
     let args = c.args in
-    let pre = c.requires.filled_bound in
+    let pre = c.requires.room in
     let l = args.out.now in
     let n = args.filled in
     let part = take (length l - n) (drop n l) in

@@ -31,12 +31,11 @@ returns-then-block-e c =
 pub answer_line-r-requires : goal.answer_line-r-requires
 answer_line-r-requires c =
     let loop = c.loop-left in
-    record { h_value = c.hear-h.ensures; filled_bound = (omega (arith, c.if-filled-gt-FILLED.false), loop.invariant.0.sized) }
+    record { heard = c.hear-h.ensures; room = (omega (arith, c.if-filled-gt-FILLED.false), loop.invariant.0.sized) }
 
 pub loop-left-smaller-then-r-eq0 : goal.loop-left-smaller-then-r-eq0
 loop-left-smaller-then-r-eq0 c =
-    let loop-test = c.loop-left-test in
-    omega (arith, loop-test.true)
+    omega (arith, c.loop-left-test.true)
 
 pub loop-left-preserved-then-r-eq0 : goal.loop-left-preserved-then-r-eq0
 loop-left-preserved-then-r-eq0 c =
@@ -44,30 +43,27 @@ loop-left-preserved-then-r-eq0 c =
     let h = c.hear-h in
     let if2 = c.if-block-e in
     let e = c.line_end-e in
-    let loop-test = c.loop-left-test in
     let l = c.loop-left in
     let args = c.args in
     let t = between args.block.now l.i e.result in
     let d = answer_effect l.c t 2100 h.result h.ensures a.result.code a.ensures.coded c.if-r-eq0.true a.result.moment a.ensures.moment c.effect-c.result c.effect-c.ensures in
-    (rw c.behind-i.ensures.value (taking_line l.invariant.0 e.result e.ensures.value (omega (arith, if2.false)) (omega (arith, loop-test.true)) _ _ d refl a.ensures.waits a.ensures.room (a.auto.out ∙ l.invariant.0.sized)), l.invariant.1)
+    (rw c.behind-i.ensures.value (taking_line l.invariant.0 e.result e.ensures.value (omega (arith, if2.false)) (omega (arith, c.loop-left-test.true)) _ _ d refl a.ensures.waits a.ensures.room (a.auto.out ∙ l.invariant.0.sized)), l.invariant.1)
 
 pub loop-left-smaller : goal.loop-left-smaller
 loop-left-smaller c =
-    let loop-test = c.loop-left-test in
-    omega (arith, loop-test.true)
+    omega (arith, c.loop-left-test.true)
 
 pub loop-left-preserved : goal.loop-left-preserved
 loop-left-preserved c =
     let h = c.hear-h in
     let if2 = c.if-block-e in
     let e = c.line_end-e in
-    let loop-test = c.loop-left-test in
     let l = c.loop-left in
     let args = c.args in
     let a = c.answer_line-r in
     let t = between args.block.now l.i e.result in
     let d = answer_kept l.c t 2100 h.result h.ensures a.result.code a.ensures.coded c.if-r-eq0.false in
-    (rw c.behind-i.ensures.value (taking_line l.invariant.0 e.result e.ensures.value (omega (arith, if2.false)) (omega (arith, loop-test.true)) _ _ d refl a.ensures.waits a.ensures.room (a.auto.out ∙ l.invariant.0.sized)), l.invariant.1)
+    (rw c.behind-i.ensures.value (taking_line l.invariant.0 e.result e.ensures.value (omega (arith, if2.false)) (omega (arith, c.loop-left-test.true)) _ _ d refl a.ensures.waits a.ensures.room (a.auto.out ∙ l.invariant.0.sized)), l.invariant.1)
 
 pub shape_of-out : goal.shape_of-out
 shape_of-out c = let v = c.loop-left.invariant in v.0.sized ∙ sym v.1

@@ -22,7 +22,7 @@ returns-then-found-ne0 c =
 pub reply_to-requires : goal.reply_to-requires
 reply_to-requires c =
     let line = c.args.line.now in
-    record { r_value = heard_asks line c.args.h c.requires c.if-found-ne0.false; line_len_bound = (heard_short line c.args.h c.requires c.if-found-ne0.false, search rules) }
+    record { asked = heard_asks line c.args.h c.requires c.if-found-ne0.false; room = (heard_short line c.args.h c.requires c.if-found-ne0.false, search rules) }
 
 pub returns : goal.returns
 returns c =

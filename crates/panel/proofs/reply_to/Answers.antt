@@ -42,7 +42,7 @@ returns-in-ClearLine c = rw c.in-ClearLine.is c.answer_with-in-ClearLine.ensures
 
 pub show_form-requires : goal.show_form-requires
 show_form-requires c =
-    record { line_value = carried_show (tokens c.args.line.now) c.args.r c.requires.r_value c.in-ShowLine.is; line_len_bound = c.requires.line_len_bound }
+    record { is_show = carried_show (tokens c.args.line.now) c.args.r c.requires.asked c.in-ShowLine.is; room = c.requires.room }
 
 pub returns-in-ShowLine : goal.returns-in-ShowLine
 unfolding outcome_of

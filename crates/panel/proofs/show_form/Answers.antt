@@ -12,7 +12,7 @@ returns-then-out-lt-SHOW_ROOM c =
 
 pub show-len-requires : goal.show-len-requires
 show-len-requires c =
-    record { line_value = c.requires.line_value; line_len_bound = (c.requires.line_len_bound.0, search rules) }
+    record { is_show = c.requires.is_show; room = (c.requires.room.0, search rules) }
 
 pub returns : goal.returns
 returns c =

@@ -25,18 +25,16 @@ cells_at-t-requires c =
 pub returns-then-count-eq0 : goal.returns-then-count-eq0
 unfolding section?
 returns-then-count-eq0 c =
-    let size-at = c.size_at in
     let args = c.args in
-    let n = rw c.in-Kept.is at size-at.ensures in
+    let n = rw c.in-Kept.is at c.size_at.ensures in
     let i = carries carried (number? (tokens (drop args.at args.s.now))) c.in-Kept.length (tokens (drop c.in-Kept.q args.s.now)) n.0 in
     rw (c.no_part_item-then-count-eq0.ensures.end_value, i.is) (no_items carried_part (section_record i.read) slot_of (items? 8 cell? (tokens (drop c.in-Kept.q args.s.now))) args.s.now 8 no_slot c.cells_at-t.result.count c.cells_at-t.result.slots c.cells_at-t.result.end c.cells_at-t.ensures c.if-count-eq0.true)
 
 pub returns : goal.returns
 unfolding section?
 returns c =
-    let size-at = c.size_at in
     let args = c.args in
-    let n = rw c.in-Kept.is at size-at.ensures in
+    let n = rw c.in-Kept.is at c.size_at.ensures in
     let i = carries carried (number? (tokens (drop args.at args.s.now))) c.in-Kept.length (tokens (drop c.in-Kept.q args.s.now)) n.0 in
     rw i.is (some_items carried_part (section_record i.read) slot_of (items? 8 cell? (tokens (drop c.in-Kept.q args.s.now))) args.s.now 8 no_slot c.cells_at-t.result.count c.cells_at-t.result.slots _ c.cells_at-t.result.end c.cells_at-t.ensures (omega arith)
     (λ xs l e. rw (section_kept i.read xs, ← i.kept, l, ← e)))

@@ -15,8 +15,7 @@ use Rattle.parts.proofs.slack_at.Goals as goal
 pub returns : goal.returns
 unfolding slack?
 returns c =
-    let sizes-at = c.sizes_at-t in
     let args = c.args in
-    let v = sizes-at.result.values in
-    ends_built carried_part slack_record (last_numbers? 4 (tokens (drop args.at args.s.now))) args.s.now _ (map carried) (take 4 v) sizes-at.result.end sizes-at.ensures
+    let v = c.sizes_at-t.result.values in
+    ends_built carried_part slack_record (last_numbers? 4 (tokens (drop args.at args.s.now))) args.s.now _ (map carried) (take 4 v) c.sizes_at-t.result.end c.sizes_at-t.ensures
     (λ x e. slack_kept x ∙ rw (c.no_part-filler.ensures, nth_kept 4 v x 0 e (omega arith), nth_kept 4 v x 1 e (omega arith), nth_kept 4 v x 2 e (omega arith), nth_kept 4 v x 3 e (omega arith)))

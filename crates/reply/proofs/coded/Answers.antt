@@ -9,7 +9,6 @@ use Rattle.reply.proofs.coded.Goals as goal
 
 pub returns : goal.returns
 returns c =
-    let append-code = c.append_code-b in
     let put = c.put-a in
     let l = c.args.out.now in
     let h = c.args.head.now in
@@ -17,6 +16,6 @@ returns c =
     let p = c.requires in
     let n = length-append h (two_digits code) in
     let a = first h l _ _ (put.ensures.value, put.ensures.out_after) in
-    let d = more h (two_digits code) l _ _ _ _ a (append-code.ensures.value, append-code.ensures.out_after) (omega arith) in
+    let d = more h (two_digits code) l _ _ _ _ a (c.append_code-b.ensures.value, c.append_code-b.ensures.out_after) (omega arith) in
     let e = more (h ++ two_digits code) tail l _ _ _ _ d (c.append.ensures.value, c.append.ensures.out_after) (omega arith) in
     record { value = e.place; out_after = e.text }

@@ -21,7 +21,6 @@ append-requires c =
 pub returns : goal.returns
 unfolding total_reply
 returns c =
-    let append-count = c.append_count-b in
     let put = c.put-a in
     let l = c.args.out.now in
     let w = c.args.w in
@@ -31,6 +30,6 @@ returns c =
     let p = c.requires in
     let d = length_digits 20 w in
     let s1 = first v1 l _ _ (put.ensures.value, put.ensures.out_after) in
-    let s2 = more_field v1 (decimal w) l _ _ _ _ s1 (append-count.ensures.value, append-count.ensures.out_after) (omega arith) in
+    let s2 = more_field v1 (decimal w) l _ _ _ _ s1 (c.append_count-b.ensures.value, c.append_count-b.ensures.out_after) (omega arith) in
     let s3 = more v2 tail l _ _ _ _ s2 (c.append.ensures.value, c.append.ensures.out_after) (omega arith) in
     record { value = s3.place; out_after = s3.text }

@@ -45,11 +45,6 @@ append-requires c =
 pub returns : goal.returns
 unfolding verdict_reply
 returns c =
-    let append-count2 = c.append_count-f in
-    let append-count = c.append_count-e in
-    let append-field2 = c.append_field-d in
-    let append-field = c.append_field-c in
-    let append-code = c.append_code-b in
     let put = c.put-a in
     let a = c.args in
     let n = lengths a.gm a.diff a.upper a.area c.ranges.gm c.ranges.diff c.requires.1 in
@@ -66,13 +61,13 @@ returns c =
     let n5 : length v5 ≡ length v4 + suc (length (decimal a.upper)) = length-append v4 (count a.upper) in
     let n6 : length v6 ≡ length v5 + suc (length (decimal a.area)) = length-append v5 (count a.area) in
     let p = c.requires.0 in
-    let e3 = rw (to_z-of_z {w = w64} {z = a.gm} c.ranges.gm) at append-field.ensures in
-    let e4 = rw (to_z-of_z {w = w64} {z = a.diff} c.ranges.diff) at append-field2.ensures in
+    let e3 = rw (to_z-of_z {w = w64} {z = a.gm} c.ranges.gm) at c.append_field-c.ensures in
+    let e4 = rw (to_z-of_z {w = w64} {z = a.diff} c.ranges.diff) at c.append_field-d.ensures in
     let s1 = first v1 l _ _ (put.ensures.value, put.ensures.out_after) in
-    let s2 = more v1 (two_digits a.code) l _ _ _ _ s1 (append-code.ensures.value, append-code.ensures.out_after) (omega arith) in
+    let s2 = more v1 (two_digits a.code) l _ _ _ _ s1 (c.append_code-b.ensures.value, c.append_code-b.ensures.out_after) (omega arith) in
     let s3 = more_field v2 (figure a.gm) l _ _ _ _ s2 (e3.value, e3.out_after) (omega arith) in
     let s4 = more_field v3 (figure a.diff) l _ _ _ _ s3 (e4.value, e4.out_after) (omega arith) in
-    let s5 = more_field v4 (decimal a.upper) l _ _ _ _ s4 (append-count.ensures.value, append-count.ensures.out_after) (omega arith) in
-    let s6 = more_field v5 (decimal a.area) l _ _ _ _ s5 (append-count2.ensures.value, append-count2.ensures.out_after) (omega arith) in
+    let s5 = more_field v4 (decimal a.upper) l _ _ _ _ s4 (c.append_count-e.ensures.value, c.append_count-e.ensures.out_after) (omega arith) in
+    let s6 = more_field v5 (decimal a.area) l _ _ _ _ s5 (c.append_count-f.ensures.value, c.append_count-f.ensures.out_after) (omega arith) in
     let s7 = more v6 tail l _ _ _ _ s6 (c.append.ensures.value, c.append.ensures.out_after) (omega arith) in
     record { value = s7.place; out_after = s7.text }

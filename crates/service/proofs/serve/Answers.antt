@@ -48,17 +48,15 @@ slice_bounds-write_out-end c =
 
 pub loop-going-smaller-then-at-n : goal.loop-going-smaller-then-at-n
 loop-going-smaller-then-at-n c =
-    let feed-block = c.feed_block-t in
     let if1 = c.if-at-n in
-    omega (arith, feed-block.ensures.onward, if1.true)
+    omega (arith, c.feed_block-t.ensures.onward, if1.true)
 
 pub loop-going-preserved-then-at-n : goal.loop-going-preserved-then-at-n
 loop-going-preserved-then-at-n c =
     let b = c.feed_block-t in
-    let loop-test = c.loop-going-test in
     let l = c.loop-going in
     let v = l.invariant in
-    let g = loop-test.true in
+    let g = c.loop-going-test.true in
     rw c.emptied-f.ensures (record {
       block_long = v.block_long;
       line_long = b.auto.line ∙ v.line_long;
@@ -107,15 +105,13 @@ loop-going-smaller-in-Goes c =
 
 pub loop-going-preserved-in-Goes : goal.loop-going-preserved-in-Goes
 loop-going-preserved-in-Goes c =
-    let to-ask = c.to_ask-ask in
     let if1 = c.if-at-n in
-    let loop-test = c.loop-going-test in
     let l = c.loop-going in
     let v = l.invariant in
     let n = c.fetch-n in
     let t = rw c.in-Goes.is at c.tell.ensures in
     let u = used_up l.block l.n l.at (omega (arith, if1.false)) in
-    let m : n.result ≤ 65536 = omega (arith, n.ensures, to-ask.ensures.room) in
+    let m : n.result ≤ 65536 = omega (arith, n.ensures, c.to_ask-ask.ensures.room) in
     record {
       block_long = n.auto.block ∙ v.block_long;
       line_long = v.line_long;
@@ -125,25 +121,21 @@ loop-going-preserved-in-Goes c =
       came = m;
       written = v.written;
       goes = λ e. serving_read (v.goes e) u n.result (take n.result n.new.block) (length-take-le n.result n.new.block (omega (arith, n.auto.block, v.block_long))) t.1;
-      stops = λ e. not_both l.going loop-test.true e;
+      stops = λ e. not_both l.going c.loop-going-test.true e;
     }
 
 pub loop-going-smaller-in-NoMore : goal.loop-going-smaller-in-NoMore
 loop-going-smaller-in-NoMore c =
-    let to-ask = c.to_ask-ask in
-    let loop-test = c.loop-going-test in
-    rw loop-test.true (omega (arith, c.fetch-n.ensures, to-ask.ensures.room))
+    rw c.loop-going-test.true (omega (arith, c.fetch-n.ensures, c.to_ask-ask.ensures.room))
 
 pub loop-going-preserved-in-NoMore : goal.loop-going-preserved-in-NoMore
 loop-going-preserved-in-NoMore c =
     let if3 = c.if-ask-eq0 in
-    let to-ask = c.to_ask-ask in
     let if1 = c.if-at-n in
-    let loop-test = c.loop-going-test in
     let l = c.loop-going in
     let v = l.invariant in
     let n = c.fetch-n in
-    let k = to-ask.ensures in
+    let k = c.to_ask-ask.ensures in
     let t = rw c.in-NoMore.is at c.tell.ensures in
     let u = used_up l.block l.n l.at (omega (arith, if1.false)) in
     let m : n.result ≤ 65536 = omega (arith, n.ensures, k.room) in
@@ -157,34 +149,29 @@ loop-going-preserved-in-NoMore c =
       came = m;
       written = λ e. not_both false e refl;
       goes = λ e. not_both false e refl;
-      stops = λ e. over_none (v.goes loop-test.true) u v.used v.line_long n.result (take n.result n.new.block) (length-take-le n.result n.new.block (omega (arith, n.auto.block, v.block_long))) p t;
+      stops = λ e. over_none (v.goes c.loop-going-test.true) u v.used v.line_long n.result (take n.result n.new.block) (length-take-le n.result n.new.block (omega (arith, n.auto.block, v.block_long))) p t;
     }
 
 pub take_begun-f-requires : goal.take_begun-f-requires
 take_begun-f-requires c =
-    let loop-test = c.loop-going-test in
     let loop = c.loop-going in
     let v = loop.invariant in
-    record { waits = omega (arith, v.written loop-test.true); output = v.out_long; begun = v.used; long = v.line_long }
+    record { waits = omega (arith, v.written c.loop-going-test.true); output = v.out_long; begun = v.used; long = v.line_long }
 
 pub loop-going-smaller : goal.loop-going-smaller
 loop-going-smaller c =
     let fetch = c.fetch-n in
-    let to-ask = c.to_ask-ask in
-    let loop-test = c.loop-going-test in
-    rw loop-test.true (omega (arith, fetch.ensures, to-ask.ensures.room))
+    rw c.loop-going-test.true (omega (arith, fetch.ensures, c.to_ask-ask.ensures.room))
 
 pub loop-going-preserved : goal.loop-going-preserved
 loop-going-preserved c =
     let tell = c.tell in
     let n = c.fetch-n in
     let if3 = c.if-ask-eq0 in
-    let to-ask = c.to_ask-ask in
     let if1 = c.if-at-n in
-    let loop-test = c.loop-going-test in
     let l = c.loop-going in
     let v = l.invariant in
-    let k = to-ask.ensures in
+    let k = c.to_ask-ask.ensures in
     let b = c.take_begun-f in
     let t = rw c.in-LastLine.is at tell.ensures in
     let u = used_up l.block l.n l.at (omega (arith, if1.false)) in
@@ -199,7 +186,7 @@ loop-going-preserved c =
       came = m;
       written = λ e. not_both false e refl;
       goes = λ e. not_both false e refl;
-      stops = λ e. over_last (v.goes loop-test.true) u v.used v.line_long n.result (take n.result n.new.block) (length-take-le n.result n.new.block (omega (arith, n.auto.block, v.block_long))) p t b.result _ b.ensures;
+      stops = λ e. over_last (v.goes c.loop-going-test.true) u v.used v.line_long n.result (take n.result n.new.block) (length-take-le n.result n.new.block (omega (arith, n.auto.block, v.block_long))) p t b.result _ b.ensures;
     }
 
 pub slice_bounds-out-end-2 : goal.slice_bounds-out-end-2

@@ -7,6 +7,7 @@ use Rattle.slack.proofs.Neither.{sizes}
 use Rattle.slack.proofs.Rows.{by_uncut, by_triangle, by_neither, crosses_by}
 use Rattle.slack.proofs.section_moment.Goals as goal
 
+-- products of numbers of 16 bits, and of their sums
 area : (b m : ℕ) → b ≤ 65535 → m ≤ 65535 → b * m ≤ 4294836225
 area b m x y = omega (arith, mul-le-mul x y)
 

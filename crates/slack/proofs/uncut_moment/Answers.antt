@@ -4,6 +4,7 @@ use native.Mathlib.Omega.{arith}
 use native.Mathlib.Nat.{mul-le-mul}
 use Rattle.slack.proofs.uncut_moment.Goals as goal
 
+-- a breadth of 16 bits, and its square
 cube : (b : ℕ) → b ≤ 65535 → (b * b ≤ 4294836225) × (b * (b * b) ≤ 281462092005375)
 cube b h = let bb = mul-le-mul h h in (omega (arith, bb), omega (arith, mul-le-mul h bb))
 

@@ -8,6 +8,7 @@ pub loop-q-init : goal.loop-q-init
 loop-q-init c =
     standing_first c.args.s.now c.args.out.now c.requires
 
+-- each token that is written keeps the standing
 pub loop-q-preserved-in-Open : goal.loop-q-preserved-in-Open
 loop-q-preserved-in-Open c =
     let n = next_by _ _ c.next_at.ensures c.in-Open.is in
@@ -24,6 +25,7 @@ loop-q-preserved c =
     let e = rw c.run_of.ensures at c.add-w-in-Run.ensures in
     standing_next c.loop-q.invariant (run _) c.in-Run.q n.0 n.2 (e.value, e.out_after)
 
+-- each is one token less
 pub loop-q-smaller-in-Open : goal.loop-q-smaller-in-Open
 loop-q-smaller-in-Open c =
     let n = next_by _ _ c.next_at.ensures c.in-Open.is in
@@ -39,6 +41,7 @@ loop-q-smaller c =
     let n = next_by _ _ c.next_at.ensures c.in-Run.is in
     standing_less c.loop-q.invariant (run _) c.in-Run.q n.0
 
+-- each has room
 pub add-w-requires : goal.add-w-requires
 add-w-requires c =
     let n = next_by _ _ c.next_at.ensures c.in-Open.is in

@@ -21,16 +21,14 @@ angle_at-requires c =
 
 pub fails_beyond-requires : goal.fails_beyond-requires
 fails_beyond-requires c =
-    let peak-of = c.peak_of in
     let e : length c.args.ds ≡ 10 = search rules in
-    let p : peak-of.result < 10 = omega (arith, peak-of.ensures, (peak_is c.args.ds (omega arith)).within) in
-    (c.requires.0, omega (arith, c.smaller-upper.ensures, c.angle_at.ensures, angle_le peak-of.result p))
+    let p : c.peak_of.result < 10 = omega (arith, c.peak_of.ensures, (peak_is c.args.ds (omega arith)).within) in
+    (c.requires.0, omega (arith, c.smaller-upper.ensures, c.angle_at.ensures, angle_le c.peak_of.result p))
 
 pub returns : goal.returns
 returns c =
-    let peak-of = c.peak_of in
     let ds = c.args.ds in
     let g = to_z-of_z {w = w64} {z = c.args.gm} c.ranges.gm in
-    let u : c.smaller-upper.result ≡ upper c.args.flood ds = c.smaller-upper.ensures ∙ ap (min c.args.flood) (c.angle_at.ensures ∙ ap angle peak-of.ensures) in
+    let u : c.smaller-upper.result ≡ upper c.args.flood ds = c.smaller-upper.ensures ∙ ap (min c.args.flood) (c.angle_at.ensures ∙ ap angle c.peak_of.ensures) in
     let d = to_z-of_z {w = w64} (sfits_of c.diff_at-diff.type_inv) ∙ c.diff_at-diff.ensures in
     rw (c.judgement_of-judgement.ensures, g, d, c.area_to-area.ensures, c.fails_beyond.ensures, u) refl
