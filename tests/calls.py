@@ -1,6 +1,8 @@
-"""Whether a function of the reader calls itself, directly or through others (document 02, P6): by the calls that the
-compiler prints, and by the proofs that the prover asks for where functions call each other in a cycle."""
+"""Whether a function of the reader calls itself, directly or through others (document 02, P6): by the calls in what the
+compiler made of each library, from which it links the program, and by the proofs that the prover asks for where functions
+call each other in a cycle."""
 
+import json
 import os
 import re
 import signal
@@ -24,15 +26,17 @@ KNOWN_CALLS = [
     ("line_codes::is_sound", "text::number_of"),
 ]
 
-# What stands in a crate's source where a function begins.
-FUNCTION = re.compile(r"^[^/\n]*\bfn (\w+)", re.MULTILINE)
-# In what the compiler prints: a text in quotes, a bracket, or a quote without its second.
-MARK = re.compile(r'"(?:[^"\\]|\\.)*"|[()"]')
-DEFINITION = re.compile(r'\(fn-def "([^"]+)" ')
-# A function that is named: called, or handed on, so that it could be called.
-NAMED = re.compile(r'\(fnRef "([^"]+)"\)')
-CALL = re.compile(r"\(call ")
-DIRECT = re.compile(r'\(call \(direct \(fnRef "')
+# What stands in a crate's source where a function begins, and, behind the spaces, one that stands in something.
+FUNCTION = re.compile(r"^([^/\n]*)\bfn (\w+)", re.MULTILINE)
+# The name that functions in a cycle have for their one proof.
+CYCLE = re.compile(r"#\[cycle\((\w+)\)\](?:\s*#\[[^\n]*\])*\s*[^/\n]*\bfn (\w+)")
+# What is no code in a source: comments, and texts in quotes.
+NO_CODE = re.compile(r'//[^\n]*|"(?:[^"\\]|\\.)*"')
+
+# A call in what the compiler made: of a named function, of one that the caller's caller chose, or of an instruction. Any
+# other, and a function whose address is taken, so that any other can call it, would not say which function is called.
+CALLS = {"Fn", "Method", "Prim"}
+NOT_SAID = {"CallV", "FnAddr", "Vtable", "Fork"}
 
 
 class NoGraph(Exception):
@@ -43,13 +47,12 @@ class NoGraph(Exception):
 
 
 def check_calls(results):
-    """The functions of the reading crates, in the program as it was last proved. `rt mir` proves nothing anew where no file
-    has changed since."""
+    """The functions of the reading crates, in the program as it was last proved."""
     uses = crates_used()
     in_program = set(uses) & ({PROGRAM} | reached(uses, PROGRAM))
     crates = sorted(in_program & reading_crates(uses))
     try:
-        graph = program_graph(crates)
+        graph = program_graph(sorted(in_program), set(uses))
     except NoGraph as why:
         results.report("calls of the program", str(why))
         return
@@ -65,28 +68,52 @@ def check_calls(results):
         results.report(f"calls: no cycle in {crate} ({count} of {len(graph)} functions)", why)
 
 
-def program_graph(crates):
-    """The calls of the program. Of a library the compiler prints all functions, of a program only those that it reaches;
-    a function of these crates that it does not reach comes from what is printed of the crate."""
-    graph = graph_of(printed(PROGRAM))
-    for crate in crates:
-        if not_in(graph, crate):
-            graph = {**graph_of(printed(crate)), **graph}
+def program_graph(crates, own):
+    """The calls of all functions of these crates, those that the program leaves out too. Of a library they are in what the
+    compiler made of it; of the program, from which nothing is linked, they are in its text."""
+    programs = [crate for crate in crates if is_program(crate)]
+    libraries = [crate for crate in crates if crate not in programs]
+    build_changed(libraries)
+    graph = graph_of([compiled(crate) for crate in libraries], own)
+    for crate in programs:
+        graph.update(written_graph(crate, sources(crate), graph))
     return graph
 
 
-def printed(crate):
-    """What the compiler prints of a crate, and of all that it reaches in others."""
-    command = ["rt", "mir", crate]
+def compiled(crate):
+    """What the compiler made of a library's functions, as it lies beside its proof: a program is linked from that."""
+    path = library_folder(crate) / f"{crate}.rlib" / "toolchain" / "mir.json"
+    if not path.is_file():
+        raise NoGraph(f"there is no {path}: run rt lib in crates/{crate}, or rt ci")
+    return path.read_text()
+
+
+def library_folder(crate):
+    return support.CRATES / crate / "out" / "rlib"
+
+
+def build_changed(crates):
+    """Has a library proved and built anew where a file has changed since. `rt ci` leaves libraries that are not older than
+    their sources; those that `rt check` left have a stamp, and `rt lib` goes by it, in those below too."""
+    uses = crates_used()
+    stamped = {crate for crate in crates if (library_folder(crate) / "stamp").exists()}
+    below = set().union(*(reached(uses, crate) for crate in stamped))
+    for crate in sorted(stamped - below):
+        build(crate)
+
+
+def build(crate):
+    command, folder = ["rt", "lib"], support.CRATES / crate
+    words = f"{' '.join(command)} in crates/{crate}"
     try:
-        process = subprocess.Popen(command, cwd=support.REPOSITORY, stdin=subprocess.DEVNULL, stdout=subprocess.PIPE,
-                                   stderr=subprocess.PIPE, encoding="utf-8", errors="replace", start_new_session=True)
+        process = subprocess.Popen(command, cwd=folder, stdin=subprocess.DEVNULL, stdout=subprocess.PIPE,
+                                   stderr=subprocess.STDOUT, encoding="utf-8", errors="replace", start_new_session=True)
     except OSError as failed:
-        raise NoGraph(f"{' '.join(command)} was not run: {failed}")
+        raise NoGraph(f"{words} was not run: {failed}")
     try:
-        text, said = process.communicate(timeout=support.PATIENCE)
+        said, _ = process.communicate(timeout=support.PATIENCE)
     except subprocess.TimeoutExpired:
-        raise NoGraph(f"{' '.join(command)} did not end within {support.PATIENCE} s; run rt check {crate} first")
+        raise NoGraph(f"{words} did not end within {support.PATIENCE} s; run it first")
     finally:
         # rt is a script: what it started has to end with it.
         if process.poll() is None:
@@ -94,15 +121,14 @@ def printed(crate):
             process.communicate()
     if process.returncode != 0:
         last = (said.strip() or "nothing said").splitlines()[-1]
-        raise NoGraph(f"{' '.join(command)} ended with status {process.returncode}: {last[:300]}")
-    return text
+        raise NoGraph(f"{words} ended with status {process.returncode}: {last[:300]}")
 
 
 def not_in(graph, crate):
-    """The functions in a crate's source that the graph does not have."""
-    sources = (support.CRATES / crate / "src").rglob("*.rt")
-    written = {name for source in sources for name in FUNCTION.findall(source.read_text())}
-    return written - {last_name(function) for function in graph if crate_of(function) == crate}
+    """The functions in a crate's source that the graph does not have. The crate's own tests, at the end of a file, are no part of
+    the program; a function that a trait only declares stands there with a mark."""
+    written = {name for text in sources(crate) for _, name in FUNCTION.findall(text.partition("#[cfg(test)]")[0])}
+    return written - {last_name(function).removesuffix("+decl") for function in graph if crate_of(function) == crate}
 
 
 def call_back_not_found(graph):
@@ -129,67 +155,181 @@ def reading_crates(uses):
     return {crate for crate in uses if crate == LOWEST or LOWEST in reached(uses, crate)}
 
 
+def is_program(crate):
+    return (support.CRATES / crate / "src" / "main.rt").is_file()
+
+
+def sources(crate):
+    return [path.read_text() for path in sorted((support.CRATES / crate / "src").rglob("*.rt"))]
+
+
 def check_proofs(results):
-    """The prover asks for one proof of all functions in a cycle, in a folder proofs/+NAME+NAME: the reader has none."""
+    """The prover asks for one proof of all functions in a cycle, and for one name of all in their source, where they are more
+    than one: the reader has neither."""
     crates = reading_crates(crates_used())
     found = [str(folder.relative_to(support.CRATES)) for crate in sorted(crates) for folder in cycle_proofs(crate)]
+    found += [f"{crate}, #[cycle({name})]" for crate in sorted(crates) for name in cycle_names(crate)]
     results.report(f"calls: no proof of a cycle in {len(crates)} reading crates", f"there is {found}" if found else None)
 
 
 def cycle_proofs(crate):
+    """The folders proofs/+NAME of a crate."""
     return sorted(folder for folder in (support.CRATES / crate / "proofs").rglob("+*") if folder.is_dir())
+
+
+def cycle_names(crate):
+    """Each name of a cycle in a crate's sources, with its functions."""
+    names = {}
+    for text in sources(crate):
+        for name, function in CYCLE.findall(text):
+            names.setdefault(name, []).append(function)
+    return names
 
 
 def other_cycles(graph, crates):
     """Which functions of these crates are in a cycle and have no such proof, or have one and are in none. Those that may call
     themselves (`whole::root_of`, `whole::divide_product`, `reply::put_digits`) are in crates that do not use the reader:
-    that they are found here shows that such a call is seen in what the compiler prints."""
+    that they are found here shows that such a call is seen in what the compiler made."""
     called = [function for function in graph if crate_of(function) in crates and way_back(graph, function)]
     found = {f"{crate_of(function)}::{last_name(function)}" for function in called}
-    folders = [(crate, folder) for crate in crates for folder in cycle_proofs(crate)]
-    proved = {f"{crate}::{name}" for crate, folder in folders for name in folder.name.split("+")[1:]}
+    proved = set()
+    for crate in crates:
+        named = cycle_names(crate)
+        for folder in cycle_proofs(crate):
+            name = folder.name[1:]
+            proved |= {f"{crate}::{function}" for function in named.get(name, name.split("+"))}
     return None if found == proved else f"{sorted(found)} are in cycles, and the prover has {sorted(proved)}"
 
 
 # ---- which function calls which
 
 
-def graph_of(text):
-    """Each function that the compiler prints, with those that its body names."""
-    graph = {}
-    for body in definitions(text):
-        name = DEFINITION.match(body)[1]
-        if name in graph:
-            raise NoGraph(f"{name} is there twice")
-        if len(CALL.findall(body)) != len(DIRECT.findall(body)):
-            raise NoGraph(f"{name} has a call that does not say of which function")
-        if len(NAMED.findall(body)) != body.count("(fnRef"):
-            raise NoGraph(f"{name} names a function in a form that is not known")
-        graph[name] = set(NAMED.findall(body))
-    stands = text.count("(fn-def")
-    if not graph or len(graph) != stands:
-        raise NoGraph(f"{len(graph)} functions are read, and (fn-def stands {stands} times in what is printed")
-    unknown = set().union(*graph.values()) - set(graph)
-    if unknown:
-        raise NoGraph(f"functions are called that are not there: {sorted(unknown)}")
-    return graph
+def graph_of(texts, own=()):
+    """Each function that the compiler made, with those that it can call: those that its body names, those that it hands on,
+    and those that are handed to it. The functions of other crates than these are the toolchain's: they can call back only what
+    is handed to them."""
+    made = {}
+    for text in texts:
+        for name, body in definitions(text):
+            if name in made:
+                raise NoGraph(f"{name} is there twice")
+            made[name] = Function(name, body)
+    if not made:
+        raise NoGraph("there is no function")
+    pass_on(made)
+    graph = {name: function.named | (function.handed if function.is_given else set()) for name, function in made.items()}
+    crates = {crate_of(name) for name in graph} | set(own)
+    ours = {called for named in graph.values() for called in named if crate_of(called) in crates}
+    if not ours <= set(graph):
+        raise NoGraph(f"functions are called that are not there: {sorted(ours - set(graph))}")
+    return {name: named & ours for name, named in graph.items()}
 
 
 def definitions(text):
-    """The text of each definition, from its bracket to the one that closes it. Brackets in quotes do not count."""
-    found, opened = [], []
-    for mark in MARK.finditer(text):
-        if mark[0] == "(":
-            opened.append(mark.start())
-        elif mark[0] == ")" and opened:
-            start = opened.pop()
-            if DEFINITION.match(text, start):
-                found.append(text[start:mark.end()])
-        elif mark[0] in (")", '"'):
-            raise NoGraph(f"brackets or quotes do not pair at byte {mark.start()} of what is printed")
-    if opened:
-        raise NoGraph(f"{len(opened)} brackets are left open in what is printed")
+    """Each function in what the compiler made of a library, by its name."""
+    try:
+        found = json.loads(text)
+    except json.JSONDecodeError as failed:
+        raise NoGraph(f"what the compiler made cannot be read: {failed}")
+    if not isinstance(found, list):
+        raise NoGraph("what the compiler made is no list")
+    for one in found:
+        if not (isinstance(one, list) and len(one) == 2 and isinstance(one[0], str) and "::" in one[0]):
+            raise NoGraph(f"no function with its name: {str(one)[:100]}")
+        if not (isinstance(one[1], dict) and isinstance(one[1].get("body"), list) and isinstance(one[1].get("generics"), dict)):
+            raise NoGraph(f"{one[0]} is in a form that is not known")
     return found
+
+
+class Function:
+    """What a function's body names. A function is handed on with an `impl` that has it, at a call of what takes such a one;
+    `Given` is one that the function itself was handed."""
+
+    def __init__(self, name, made):
+        self.name = name
+        self.body = made["body"]
+        for word in NOT_SAID:
+            if any(True for _ in standing(self.body, word)):
+                raise NoGraph(f"{name} has a call that does not say of which function, or the address of one ({word})")
+        self.methods = {impl["name"]: set(impl["methods"]) for impl in made["generics"].get("impls", [])}
+        self.is_given = any(True for _ in standing(self.body, "Given"))
+        # What this function's callers hand to it.
+        self.handed = set()
+        # What is handed: to which functions (None: those that were handed to this one), which, and whether those too that were handed to this one.
+        self.hands = []
+        try:
+            self.named = self._read()
+        except (KeyError, TypeError, ValueError, IndexError):
+            raise NoGraph(f"{name} names a function in a form that is not known")
+
+    def _read(self):
+        for called, *_ in standing(self.body, "Call"):
+            if not (isinstance(called, dict) and len(called) == 1 and set(called) <= CALLS):
+                raise NoGraph(f"{self.name} has a call that does not say of which function")
+        named = set()
+        for name, at in standing(self.body, "Fn"):
+            if not isinstance(name, str):
+                raise TypeError
+            named.add(name)
+            self._hand({name}, at["dicts"])
+        for name, _, inside in standing(self.body, "Impl"):
+            named |= self.methods[name]
+            self._hand(self.methods[name], inside)
+        for of, _, at in standing(self.body, "Method"):
+            self._hand(self.methods[of["Impl"][0]] if "Impl" in of else None, at["dicts"])
+        return named
+
+    def _hand(self, to, given):
+        handed = set().union(*(self.methods[impl[0]] for impl in standing(given, "Impl")))
+        passes_on = any(True for _ in standing(given, "Given"))
+        if handed or passes_on:
+            self.hands.append((to, handed, passes_on))
+
+
+def standing(tree, word):
+    """All that stands under this word, at any depth."""
+    if isinstance(tree, dict):
+        for key, below in tree.items():
+            if key == word:
+                yield below
+            yield from standing(below, word)
+    elif isinstance(tree, list):
+        for below in tree:
+            yield from standing(below, word)
+
+
+def pass_on(made):
+    """Has each function know what it is handed, also from callers of its callers."""
+    grows = True
+    while grows:
+        grows = False
+        for function in made.values():
+            for to, handed, passes_on in function.hands:
+                all_handed = handed | (function.handed if passes_on else set())
+                for name in (function.handed if to is None else to) & set(made):
+                    if not all_handed <= made[name].handed:
+                        made[name].handed |= all_handed
+                        grows = True
+
+
+def written_graph(crate, texts, graph):
+    """The functions of a program, each with those of its crate, and those of a library, that its text names. Any function of
+    the program can call one that does not stand at the margin, as a method of an `impl`, without naming it."""
+    bodies, called_by_all = {}, set()
+    for text in texts:
+        code = NO_CODE.sub("", text)
+        begins = list(FUNCTION.finditer(code))
+        for begin, next_one in zip(begins, begins[1:] + [None]):
+            name = begin[2]
+            bodies[name] = bodies.get(name, "") + code[begin.end():next_one.start() if next_one else None]
+            if begin[1].startswith((" ", "\t")):
+                called_by_all.add(f"{crate}::{name}")
+    written = {}
+    for name, body in bodies.items():
+        words = set(re.findall(r"\w+", body))
+        named = {f"{crate}::{other}" for other in bodies if other in words} | called_by_all
+        written[f"{crate}::{name}"] = named | {f for f in graph if {crate_of(f), last_name(f)} <= words}
+    return written
 
 
 def crate_of(function):
@@ -245,37 +385,128 @@ MADE_UP = [
      ["a", "b", "c"]),
     ("two cycles", {"a::f": ["a::f", "b::g"], "b::g": ["c::h"], "c::h": ["b::g"], "d::i": ["a::f"]}, ["a", "b", "c"]),
 ]
-# How the compiler prints a call, and a function that is handed on.
-CALLED = '(seq (call (direct (fnRef "{}")) (lcons (copy (place 1 lnil)) lnil) (place 0 lnil)) '
-HANDED_ON = '(seq (assign (place 2 lnil) (rvOpd (fnRef "{}"))) '
+EMPTY = {"types": [], "dicts": []}
+PLACE = {"local": 0, "steps": []}
+
+
+def made_of(name, body, impls=()):
+    """A function as the compiler makes it. Types are told by names in quotes, and these may have brackets."""
+    return [name, {"params": 0, "generics": {"types": [], "impls": list(impls)}, "locals": [{"ty": {"Struct": ["&[](", []]}}],
+                   "body": [*body, "Return"]}]
+
+
+def call(function, at=EMPTY):
+    return ["Seq", {"Call": [{"Fn": [function, at]}, [{"Copy": {"local": 1, "steps": []}}], PLACE]}]
+
+
+def handing(*given):
+    return {"types": [], "dicts": list(given)}
+
+
+def impl_of(function):
+    return {"Impl": [f"{function} at a call", [], []]}
+
+
+def table_of(*functions):
+    return [{"name": f"{function} at a call", "methods": [function]} for function in functions]
+
+
+# A call of what was handed, and how one function is handed on to another function of the program, or to one of the toolchain.
+GIVEN = {"Given": 0}
+CALL_GIVEN = ["Seq", {"Call": [{"Method": [GIVEN, 0, EMPTY]}, [], PLACE]}]
+
+
+def called(name, others):
+    return made_of(name, [step for other in others for step in call(other)])
+
+
+def handed_on(name, others):
+    steps = [step for other in others for step in call("core::option::Option::map", handing(impl_of(other)))]
+    return made_of(name, steps, table_of(*others))
+
+
+# Made-up programs in which a function calls what it is handed: what is made up, the functions, the crates with a cycle.
+HANDED = [
+    ("one that calls nothing back",
+     [made_of("a::by", CALL_GIVEN), made_of("b::f", call("a::by", handing(impl_of("b::g"))), table_of("b::g")), made_of("b::g", [])],
+     []),
+    ("one that calls back where it was handed to",
+     [made_of("a::by", CALL_GIVEN), made_of("b::f", call("a::by", handing(impl_of("b::g"))), table_of("b::g")),
+      called("b::g", ["a::by"])],
+     ["a", "b"]),
+    ("one that calls back where it was passed on to",
+     [made_of("a::by", CALL_GIVEN), made_of("c::on", call("a::by", handing(GIVEN))),
+      made_of("b::f", call("c::on", handing(impl_of("b::g"))), table_of("b::g")), called("b::g", ["a::by"])],
+     ["a", "b"]),
+    ("one inside another",
+     [made_of("a::by", CALL_GIVEN),
+      made_of("b::f", call("a::by", handing({"Impl": ["a::m at a call", [], [impl_of("b::g")]]})), table_of("a::m", "b::g")),
+      made_of("a::m", CALL_GIVEN), called("b::g", ["a::m"])],
+     ["a", "b"]),
+    ("one that is made for one at hand",
+     [made_of("c::by", ["Seq", {"Call": [{"Method": [GIVEN, 0, handing(impl_of("c::h"))]}, [], PLACE]}], table_of("c::h")),
+      made_of("b::f", call("c::by", handing(impl_of("b::m"))), table_of("b::m")), made_of("b::m", CALL_GIVEN),
+      called("c::h", ["b::m"])],
+     ["b", "c"]),
+]
+
+# Texts of made-up programs from which nothing is linked, and the crates with a cycle.
+WRITTEN = [
+    ("no cycle", "// main is named here\nfn main() {\n    helper(\"main\");\n}\n\nfn helper(n: u8) {}\n", []),
+    ("a function that calls itself", "fn main() {\n    if true {\n        main();\n    }\n}\n", ["p"]),
+    ("two that call each other", "fn main() {\n    go();\n}\n\nfn go() {\n    s::m::serve(|| main());\n}\n", ["p"]),
+    ("a method that calls back", "fn main() {\n    s::show(X {});\n}\n\nimpl S for X {\n    fn shown(&self) {\n        main();\n    }\n}\n",
+     ["p"]),
+]
+
 # Texts that are no graph.
 NO_GRAPHS = [
     ("nothing", ""),
     ("another form", "fn main() { f(); }"),
-    ("a bracket that is not closed", '(lcons (fn-def "a::f" (fnItem return)) lnil'),
-    ("a bracket too many", '(fn-def "a::f" (fnItem return)))'),
-    ("a quote too many", '(fn-def "a::f" (fnItem return)) "'),
-    ("a function that is not there", '(fn-def "a::f" (fnItem (call (direct (fnRef "a::g")) lnil)))'),
-    ("a function that is there twice", '(fn-def "a::f" (fnItem return)) (fn-def "a::f" (fnItem return))'),
-    ("a call of a function that was handed on", '(fn-def "a::f" (fnItem (call (copy (place 1 lnil)) lnil)))'),
-    ("a call in another form", '(fn-def "a::f" (fnItem (call (direct (fnRef "a::f" lnil)) lnil)))'),
-    ("a definition in another form", '(fn-def "a::f" (fnItem return)) (fn-def a::g (fnItem return))'),
+    ("a program in no list", json.dumps({"a::f": made_of("a::f", [])[1]})),
+    ("no function", "[]"),
+    ("a bracket that is not closed", json.dumps([made_of("a::f", [])])[:-1]),
+    ("a bracket too many", json.dumps([made_of("a::f", [])]) + "]"),
+    ("a quote too many", json.dumps([made_of("a::f", [])]) + '"'),
+    ("a function that is not there", json.dumps([called("a::f", ["a::g"])])),
+    ("a function handed on that is not there", json.dumps([handed_on("a::f", ["a::g"])])),
+    ("a function that is there twice", json.dumps([called("a::f", []), called("a::f", [])])),
+    ("a call of a function that was handed on",
+     json.dumps([made_of("a::f", ["Seq", {"CallV": [{"Copy": PLACE}, {"abi": "Rattle", "types": []}, [], PLACE]}])])),
+    ("a function's address",
+     json.dumps([made_of("a::f", ["Seq", {"Assign": [PLACE, {"Opd": {"FnAddr": {"callee": {"Fn": ["a::f", EMPTY]}}}}]}])])),
+    ("a table of functions",
+     json.dumps([made_of("a::f", ["Seq", {"Assign": [PLACE, {"Aggregate": [{"Vtable": [[], [{"callee": {"Fn": ["a::f", EMPTY]}}]]}]}]}])])),
+    ("a call in another form", json.dumps([made_of("a::f", ["Seq", {"Call": [{"Direct": ["a::f", EMPTY]}, [], PLACE]}])])),
+    ("a function named in another form", json.dumps([made_of("a::f", ["Seq", {"Call": [{"Fn": {"name": "a::f"}}, [], PLACE]}])])),
+    ("a function handed on in a form that is not told", json.dumps([made_of("a::f", call("a::f", handing(impl_of("a::g"))))])),
+    ("a definition in another form", json.dumps([called("a::f", []), {"a::g": called("a::g", [])[1]}])),
+    ("a function with no body", json.dumps([["a::f", {"generics": {}}]])),
 ]
 
 
 def check_finder(results):
     """Cycles in made-up programs are found where they are, and a text that cannot be read is not taken for a graph."""
     for what, calls, wanted in MADE_UP:
-        for how, form in [("called", CALLED), ("handed on", HANDED_ON)]:
-            results.report(f"calls made up, {what}, {how}", wrong_crates(as_printed(calls, form), wanted))
+        for how, form in [("called", called), ("handed on", handed_on)]:
+            text = json.dumps([form(name, others) for name, others in calls.items()])
+            results.report(f"calls made up, {what}, {how}", wrong_crates(lambda: graph_of([text]), wanted))
+    for what, functions, wanted in HANDED:
+        for how, texts in [("in one text", [functions]), ("in a text each", [[function] for function in functions])]:
+            graph = lambda: graph_of([json.dumps(text) for text in texts], ["a", "b", "c"])
+            results.report(f"calls made up, a function is handed {what}, {how}", wrong_crates(graph, wanted))
+    for what, text, wanted in WRITTEN:
+        libraries = {"s::m::serve": set(), "s::show": set()}
+        graph = lambda: {**libraries, **written_graph("p", [text], libraries)}
+        results.report(f"calls made up, {what}, in the text of a program", wrong_crates(graph, wanted))
     for what, text in NO_GRAPHS:
         results.report(f"calls made up, {what}, is no graph", taken_for_graph(text))
 
 
-def wrong_crates(text, wanted):
+def wrong_crates(make, wanted):
     """What is wrong, if cycles are found in other crates than these."""
     try:
-        graph = graph_of(text)
+        graph = make()
     except NoGraph as why:
         return str(why)
     found = [crate for crate in sorted({crate_of(function) for function in graph}) if cycles(graph, crate)]
@@ -284,16 +515,6 @@ def wrong_crates(text, wanted):
 
 def taken_for_graph(text):
     try:
-        return f"taken for {graph_of(text)}"
+        return f"taken for {graph_of([text])}"
     except NoGraph:
         return None
-
-
-def as_printed(calls, form):
-    """A made-up program as the compiler prints it. Types are printed by names in quotes, and these may have brackets; behind
-    all functions it names the first one."""
-    text = "program "
-    for function, named in calls.items():
-        body = "".join(form.format(name) for name in named) + "return" + len(named) * ")"
-        text += f'(lcons (fn-def "{function}" (fnItem 0 lnil 0 (lcons (local (tyStruct "&[](" tnil)) lnil) {body})) '
-    return text + "lnil" + len(calls) * ")" + f' (fnRef "{next(iter(calls))}")\n'

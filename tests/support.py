@@ -9,8 +9,9 @@ TESTS = Path(__file__).resolve().parent
 REPOSITORY = TESTS.parent
 BUILT = REPOSITORY / "target" / "tests"
 CRATES = REPOSITORY / "crates"
-SERVICE = REPOSITORY / "target" / "bin" / "panel_service"
-SMALL_SERVICE = REPOSITORY / "target" / "bin" / "small_service"
+# The programs, where rt leaves them once they are proved.
+SERVICE = CRATES / "panel_service" / "out" / "panel_service"
+SMALL_SERVICE = CRATES / "small_service" / "out" / "small_service"
 # The right outputs of a panel with every request up to the newest that has landed.
 VECTORS = REPOSITORY.parent / "shared" / "vectors" / "p06"
 PAPER = REPOSITORY.parent / "shared" / "papers" / "01-scope.md"
