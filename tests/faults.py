@@ -13,8 +13,8 @@ file: crates/line_codes/src/lib.rt
 old: const DEEPEST_IN_SHOW: usize = 5;
 new: const DEEPEST_IN_SHOW: usize = 6;
 file: crates/line_codes/specs/Line.antt
-old: deepest ts = cond (isShow ts) 5 4
-new: deepest ts = cond (isShow ts) 6 4
+old: deepest ts = cond (is_show ts) 5 4
+new: deepest ts = cond (is_show ts) 6 4
 """
 
 DIST_AND_GIRDER = """
@@ -51,7 +51,7 @@ new:         fs: v[0],
 file: crates/forms/specs/Shape.antt
 old: kg = nth v 0; fs = nth v 1
 new: kg = nth v 1; fs = nth v 0
-file: crates/forms/proofs/load_at/Proof.antt
+file: crates/forms/proofs/load_at/Answers.antt
 old: kg = nth x 0; fs = nth x 1
 new: kg = nth x 1; fs = nth x 0
 file: crates/showing/proofs/Framing.antt
@@ -74,54 +74,54 @@ new: ("old", Under NewWord) ∷ ("new", Under OldWord)
 
 ROOM_128 = """
 file: crates/panel/specs/Step.antt
-old: leastRoom = 96
-new: leastRoom = 128
+old: least_room = 96
+new: least_room = 128
 file: crates/panel/src/lib.rt
 old: const LEAST_ROOM: usize = 96;
 new: const LEAST_ROOM: usize = 128;
 file: crates/panel/proofs/Answers.antt
-old: handed-room : (h : Heard) (n : ℕ) → 96 ≤ n →
-new: handed-room : (h : Heard) (n : ℕ) → 128 ≤ n →
-old: handed-room h n p = rw (le-ltb n 96 p)
-new: handed-room h n p = rw (le-ltb n 128 p)
-old: handed-none : (h : Heard) (n : ℕ) → n < 96 →
-new: handed-none : (h : Heard) (n : ℕ) → n < 128 →
-old: handed-none h n p = rw (lt-ltb n 96 p)
-new: handed-none h n p = rw (lt-ltb n 128 p)
-old: step-none : n < 96 →
-new: step-none : n < 128 →
-old: step-none p = rw (lt-ltb n 96 p)
-new: step-none p = rw (lt-ltb n 128 p)
-old: lent-room : stepOf c line n .code ≡ 0 → 96 ≤ n
-new: lent-room : stepOf c line n .code ≡ 0 → 128 ≤ n
-old: lent-room e = by (ltb n 96) refl
-new: lent-room e = by (ltb n 128) refl
+old: handed_room : (h : Heard) (n : ℕ) → 96 ≤ n →
+new: handed_room : (h : Heard) (n : ℕ) → 128 ≤ n →
+old: handed_room h n p = rw (le-ltb n 96 p)
+new: handed_room h n p = rw (le-ltb n 128 p)
+old: handed_none : (h : Heard) (n : ℕ) → n < 96 →
+new: handed_none : (h : Heard) (n : ℕ) → n < 128 →
+old: handed_none h n p = rw (lt-ltb n 96 p)
+new: handed_none h n p = rw (lt-ltb n 128 p)
+old: step_none : n < 96 →
+new: step_none : n < 128 →
+old: step_none p = rw (lt-ltb n 96 p)
+new: step_none p = rw (lt-ltb n 128 p)
+old: lent_room : (step_of c line n).code ≡ 0 → 96 ≤ n
+new: lent_room : (step_of c line n).code ≡ 0 → 128 ≤ n
+old: lent_room e = by (ltb n 96) refl
+new: lent_room e = by (ltb n 128) refl
 old: by : (x : Bool) → ltb n 96 ≡ x → 96 ≤ n
 new: by : (x : Bool) → ltb n 128 ≡ x → 128 ≤ n
-old: step-none (ltb-true n 96 t)
-new: step-none (ltb-true n 128 t)
+old: step_none (ltb-true n 96 t)
+new: step_none (ltb-true n 128 t)
 old: by false t = ltb-false n 96 t
 new: by false t = ltb-false n 128 t
-old: nothing-by line TooLong f n = none-of (ltb n 96)
-new: nothing-by line TooLong f n = none-of (ltb n 128)
-old: nothing-by line BadByte f n = none-of (ltb n 96)
-new: nothing-by line BadByte f n = none-of (ltb n 128)
-old: nothing-by line NotOneForm f n = none-of (ltb n 96)
-new: nothing-by line NotOneForm f n = none-of (ltb n 128)
-old: nothing-by line BadNumber f n = none-of (ltb n 96)
-new: nothing-by line BadNumber f n = none-of (ltb n 128)
-old: step-heard : 96 ≤ n →
-new: step-heard : 128 ≤ n →
-old: step-heard p = rw (le-ltb n 96 p
-new: step-heard p = rw (le-ltb n 128 p
-old: step-refused : 96 ≤ n →
-new: step-refused : 128 ≤ n →
-old: step-request : 96 ≤ n →
-new: step-request : 128 ≤ n →
+old: nothing_by line TooLong f n = none_of (ltb n 96)
+new: nothing_by line TooLong f n = none_of (ltb n 128)
+old: nothing_by line BadByte f n = none_of (ltb n 96)
+new: nothing_by line BadByte f n = none_of (ltb n 128)
+old: nothing_by line NotOneForm f n = none_of (ltb n 96)
+new: nothing_by line NotOneForm f n = none_of (ltb n 128)
+old: nothing_by line BadNumber f n = none_of (ltb n 96)
+new: nothing_by line BadNumber f n = none_of (ltb n 128)
+old: step_heard : 96 ≤ n →
+new: step_heard : 128 ≤ n →
+old: step_heard p = rw (le-ltb n 96 p
+new: step_heard p = rw (le-ltb n 128 p
+old: step_refused : 96 ≤ n →
+new: step_refused : 128 ≤ n →
+old: step_request : 96 ≤ n →
+new: step_request : 128 ≤ n →
 old: ≡ cond (ltb n 96)
 new: ≡ cond (ltb n 128)
-old: asked-by (ltb n 96)
-new: asked-by (ltb n 128)
+old: asked_by (ltb n 96)
+new: asked_by (ltb n 128)
 file: crates/panel/proofs/Codes.antt
 old: (ltb lent 96)
 new: (ltb lent 128)
@@ -135,8 +135,8 @@ new: let room : 128 ≤ length
 
 SHOW_ROOM_2200 = """
 file: crates/panel/specs/Step.antt
-old: showRoom = 2100
-new: showRoom = 2200
+old: show_room = 2100
+new: show_room = 2200
 file: crates/panel/src/lib.rt
 old: const SHOW_ROOM: usize = 2100;
 new: const SHOW_ROOM: usize = 2200;
@@ -146,19 +146,19 @@ new: (ltb lent 2200)
 file: crates/panel/proofs/show_form/Proof.antt
 old: 2100 (omega
 new: 2200 (omega
-old: 2100 (search needs)
-new: 2200 (search needs)
+old: 2100 (search rules)
+new: 2200 (search rules)
 file: crates/panel/proofs/Room.antt
 old: (p : 2100 ≤ n)
 new: (p : 2200 ≤ n)
-old: ≡ outcomeBy c ts 2100 k h col
-new: ≡ outcomeBy c ts 2200 k h col
+old: ≡ outcome_by c ts 2100 k h col
+new: ≡ outcome_by c ts 2200 k h col
 old: le-ltb n 2100 p
 new: le-ltb n 2200 p
-old: ≡ outcomeAfter c line 2100 r
-new: ≡ outcomeAfter c line 2200 r
-old: ≡ stepOf c line 2100
-new: ≡ stepOf c line 2200
+old: ≡ outcome_after c line 2100 r
+new: ≡ outcome_after c line 2200 r
+old: ≡ step_of c line 2100
+new: ≡ step_of c line 2200
 """
 
 FULL_AT_ONCE = """
@@ -169,8 +169,8 @@ file: crates/columns/src/lib.rt
 old:     if 20 <= n {
 new:     if 0 <= n {
 file: crates/columns/proofs/Adding.antt
-old: answer-full : 20 ≤ length ks
-new: answer-full : 0 ≤ length ks
+old: answer_full : 20 ≤ length ks
+new: answer_full : 0 ≤ length ks
 old: le-leb 20 (length ks) h
 new: le-leb 0 (length ks) h
 old: (b : Bool) → length ks < 20 →
@@ -183,63 +183,63 @@ new: lt-leb 0 (length ks) h
 
 FLOOD_IN_LAWS = """
 file: proofs/Ranges.antt
-old: (within 1 9000 (s .flood)) e in
-new: (within 1 9999 (s .flood)) e in
-old: within-true 1 9000 (s .flood)
-new: within-true 1 9999 (s .flood)
-old: within-by 1 9000 (s .flood)
-new: within-by 1 9999 (s .flood)
+old: (within 1 9000 s.flood) e in
+new: (within 1 9999 s.flood) e in
+old: within_true 1 9000 s.flood
+new: within_true 1 9999 s.flood
+old: within_by 1 9000 s.flood
+new: within_by 1 9999 s.flood
 """
 
 UPPER_IN_LAWS = """
 file: proofs/Codes.antt
-old: Tens.{angle-is}
-new: Tens.{angle-is, angle-le}
-old: or-either (failsAmong (heelLimit s) (upper (s .flood) (diffs b)) (diffs b) 10) _ e
-new: or-either (failsAmong (heelLimit s) 4000 (diffs b) 10) _ e
-old: ten : failsAmong (heelLimit s) (upper (s .flood) (diffs b)) (diffs b) 10 ≡ true
-new: ten : failsAmong (heelLimit s) 4000 (diffs b) 10 ≡ true
-old: failing (heelLimit s) u (diffs b) 10 f
-new: failing (heelLimit s) 4000 (diffs b) 10 f
-old: leb (angle j) u) (isBelow (tenOf b j)) (r .fails)
-new: leb (angle j) 4000) (isBelow (tenOf b j)) (r .fails)
-old: (leb (angle j) u) (t .0)
-new: (leb (angle j) 4000) (t .0)
-old: leb-true (angle j) u (v .1)
-new: leb-true (angle j) 4000 (v .1)
-old: failsAt (heelLimit s) u (diffs b) j ≡ true
-new: failsAt (heelLimit s) 4000 (diffs b) j ≡ true
-old: le-leb (angle j) u (rw (angle-is j) at r)
-new: le-leb (angle j) 4000 (angle-le j h)
-old: among-found (heelLimit s) u (diffs b) j 10 h e
-new: among-found (heelLimit s) 4000 (diffs b) j 10 h e
-old: or-right (failsAmong (heelLimit s) u (diffs b) 10)
-new: or-right (failsAmong (heelLimit s) 4000 (diffs b) 10)
+old: Tens.{angle_is}
+new: Tens.{angle_is, angle_le}
+old: or_either (fails_among (heel_limit s) (upper s.flood (diffs b)) (diffs b) 10) _ e
+new: or_either (fails_among (heel_limit s) 4000 (diffs b) 10) _ e
+old: ten : fails_among (heel_limit s) (upper s.flood (diffs b)) (diffs b) 10 ≡ true
+new: ten : fails_among (heel_limit s) 4000 (diffs b) 10 ≡ true
+old: failing (heel_limit s) u (diffs b) 10 f
+new: failing (heel_limit s) 4000 (diffs b) 10 f
+old: leb (angle j) u) (is_below (ten_of b j)) r.fails
+new: leb (angle j) 4000) (is_below (ten_of b j)) r.fails
+old: (leb (angle j) u) t.0
+new: (leb (angle j) 4000) t.0
+old: leb-true (angle j) u v.1
+new: leb-true (angle j) 4000 v.1
+old: fails_at (heel_limit s) u (diffs b) j ≡ true
+new: fails_at (heel_limit s) 4000 (diffs b) j ≡ true
+old: le-leb (angle j) u (rw (angle_is j) at r)
+new: le-leb (angle j) 4000 (angle_le j h)
+old: among_found (heel_limit s) u (diffs b) j 10 h e
+new: among_found (heel_limit s) 4000 (diffs b) j 10 h e
+old: or_right (fails_among (heel_limit s) u (diffs b) 10)
+new: or_right (fails_among (heel_limit s) 4000 (diffs b) 10)
 file: proofs/Demand3.antt
-old: Tens.{angle-is, angle-rises,
-new: Tens.{angle-is, angle-le, angle-rises,
-old: among-false heel up (diffs b) 10 (or-false (failsAmong heel up (diffs b) 10) _ e42 .0)
-new: among-false heel 4000 (diffs b) 10 (or-false (failsAmong heel 4000 (diffs b) 10) _ e42 .0)
+old: Tens.{angle_is, angle_rises,
+new: Tens.{angle_is, angle_le, angle_rises,
+old: among_false heel up (diffs b) 10 (or_false (fails_among heel up (diffs b) 10) _ e42).0
+new: among_false heel 4000 (diffs b) 10 (or_false (fails_among heel 4000 (diffs b) 10) _ e42).0
 old: le-leb (angle j) up r) at f
-new: le-leb (angle j) 4000 (angle-le j h)) at f
-old: or-false (failsAmong heel up (diffs b) 10) (ltb heel up
-new: or-false (failsAmong heel 4000 (diffs b) 10) (ltb heel up
+new: le-leb (angle j) 4000 (angle_le j h)) at f
+old: or_false (fails_among heel up (diffs b) 10) (ltb heel up
+new: or_false (fails_among heel 4000 (diffs b) 10) (ltb heel up
 """
 
 AREA_LIMIT_IN_LAWS = """
 file: proofs/Codes.antt
 old: 429718347 ≡ t₄
 new: 429718348 ≡ t₄
-old: ltb-true (area (diffs b) (upper (s .flood) (diffs b))) 429718347
-new: ltb-true (area (diffs b) (upper (s .flood) (diffs b))) 429718348
-old: ltb-false (area (diffs b) (upper (s .flood) (diffs b))) 429718347 e₄
-new: omega (arith, ltb-false (area (diffs b) (upper (s .flood) (diffs b))) 429718348 e₄)
-old: (ltb (area (diffs b) (upper (s .flood) (diffs b))) 429718347)
-new: (ltb (area (diffs b) (upper (s .flood) (diffs b))) 429718348)
-old: lt-ltb (area (diffs b) (upper (s .flood) (diffs b))) 429718347 a
-new: lt-ltb (area (diffs b) (upper (s .flood) (diffs b))) 429718348 (omega (arith, a))
-old: le-ltb (area (diffs b) (upper (s .flood) (diffs b))) 429718347
-new: le-ltb (area (diffs b) (upper (s .flood) (diffs b))) 429718348
+old: ltb-true (area (diffs b) (upper s.flood (diffs b))) 429718347
+new: ltb-true (area (diffs b) (upper s.flood (diffs b))) 429718348
+old: ltb-false (area (diffs b) (upper s.flood (diffs b))) 429718347 e₄
+new: omega (arith, ltb-false (area (diffs b) (upper s.flood (diffs b))) 429718348 e₄)
+old: (ltb (area (diffs b) (upper s.flood (diffs b))) 429718347)
+new: (ltb (area (diffs b) (upper s.flood (diffs b))) 429718348)
+old: lt-ltb (area (diffs b) (upper s.flood (diffs b))) 429718347 a
+new: lt-ltb (area (diffs b) (upper s.flood (diffs b))) 429718348 (omega (arith, a))
+old: le-ltb (area (diffs b) (upper s.flood (diffs b))) 429718347
+new: le-ltb (area (diffs b) (upper s.flood (diffs b))) 429718348
 file: proofs/Demand3.antt
 old: 429718347 ≡ false
 new: 429718348 ≡ false
@@ -251,8 +251,8 @@ old: ltb-true (area (diffs b) u) 429718347 e
 new: ltb-true (area (diffs b) u) 429718348 e
 old: 429718347 ≡ t₄
 new: 429718348 ≡ t₄
-old: (ltb (area (diffs b) (upper (s .flood) (diffs b))) 429718347)
-new: (ltb (area (diffs b) (upper (s .flood) (diffs b))) 429718348)
+old: (ltb (area (diffs b) (upper s.flood (diffs b))) 429718347)
+new: (ltb (area (diffs b) (upper s.flood (diffs b))) 429718348)
 """
 
 ORDER_IN_LAWS = """
@@ -263,12 +263,12 @@ old: cases false true t₃ t₄
 new: cases false true false t₄
 old: cases false false true t₄
 new: cases false t₂ true t₄
-old: rw (t .0, t .1, fails-true s b f)
-new: rw (t .0, fails-true s b f)
-old: rw (t .0, t .1, fails-false s b (n .beyond), lt-ltb
-new: rw (t .0, fails-false s b (n .beyond), t .1, lt-ltb
-old: rw (t .0, t .1, fails-false s b (n .beyond), le-ltb
-new: rw (t .0, fails-false s b (n .beyond), t .1, le-ltb
+old: rw (t.0, t.1, fails_true s b f)
+new: rw (t.0, fails_true s b f)
+old: rw (t.0, t.1, fails_false s b n.beyond, lt-ltb
+new: rw (t.0, fails_false s b n.beyond, t.1, lt-ltb
+old: rw (t.0, t.1, fails_false s b n.beyond, le-ltb
+new: rw (t.0, fails_false s b n.beyond, t.1, le-ltb
 file: proofs/Demand3.antt
 old: (cond t₂ ShortAtHeel (cond t₃ ShortBeyond
 new: (cond t₃ ShortBeyond (cond t₂ ShortAtHeel
@@ -289,11 +289,11 @@ file: crates/storing/src/lib.rt
 old:     let figure = total::exchange(c.total, old, moment);
 new:     let figure = total::exchange(c.total, h, moment);
 file: crates/storing/specs/Storing.antt
-old:       total = exchanged (c .total) (holdAt c n) w;
-new:       total = exchanged (c .total) h w;
-file: crates/storing/proofs/with_hold/Proof.antt
-old:     let figure = c .exchange .ensures ∙ ap (λ (h : Hold). exchanged (before .total) h (args .moment)) (sym there) in
-new:     let figure = c .exchange .ensures in
+old:       total = exchanged c.total (hold_at c n) w;
+new:       total = exchanged c.total h w;
+file: crates/storing/proofs/with_hold/Answers.antt
+old:     let figure = c.exchange-figure.ensures ∙ ap (λ (h : Hold). exchanged before.total h args.moment) (sym there) in
+new:     let figure = c.exchange-figure.ensures in
 """
 
 DROP_PUTS_ON = """
@@ -301,58 +301,55 @@ file: crates/effects/src/lib.rt
 old:         Kind::DropLine(n) => storing::with_hold(c, n, record::no_hold(), 0),
 new:         Kind::DropLine(n) => storing::with_hold(c, n, record::no_hold(), c.total),
 file: crates/effects/specs/Effect.antt
-old: (withHold c n noHold 0)
-new: (withHold c n noHold (c .total))
+old: (with_hold c n no_hold 0)
+new: (with_hold c n no_hold c.total)
 file: crates/operations/specs/Operations.antt
-old: (withHold c n noHold 0)
-new: (withHold c n noHold (c .total))
+old: (with_hold c n no_hold 0)
+new: (with_hold c n no_hold c.total)
 file: crates/operations/proofs/Effects.antt
-old: dropOperation c n ≡ taken (withHold c n noHold 0)
-new: dropOperation c n ≡ taken (withHold c n noHold (c .total))
-old: withHold c n noHold 0 ≡ dropOperation c n .after
-new: withHold c n noHold (c .total) ≡ dropOperation c n .after
+old: drop_operation c n ≡ taken (with_hold c n no_hold 0)
+new: drop_operation c n ≡ taken (with_hold c n no_hold c.total)
+old: with_hold c n no_hold 0 ≡ (drop_operation c n).after
+new: with_hold c n no_hold c.total ≡ (drop_operation c n).after
 file: crates/storing/proofs/Stores.antt
-old: HoldDropped c n (withHold c n noHold 0)
-new: HoldDropped c n (withHold c n noHold (c .total))
-old: (at-place n noHold 0 p long), other-places n noHold 0 p
-new: (at-place n noHold (c .total) p long), other-places n noHold (c .total) p
+old: HoldDropped c n (with_hold c n no_hold 0)
+new: HoldDropped c n (with_hold c n no_hold c.total)
+old: (at_place n no_hold 0 p long), other_places n no_hold 0 p
+new: (at_place n no_hold c.total p long), other_places n no_hold c.total p
 """
 
 def clear_keeps(field):
     """A clear that leaves one field of the condition as it was."""
     fields = ("shipped", "ship", "loaded", "load", "columns", "holds", "total", "sums")
-    after = "; ".join(f"{name} = {'c' if name == field else 'empty'} .{name}" for name in fields)
+    after = "; ".join(f"{name} = {'c' if name == field else 'empty'}.{name}" for name in fields)
     return f"""
 file: crates/effects/src/lib.rt
-old: ghost use Rattle·effects·specs.specs.Effect.{{effectOf}};
-new: ghost use Rattle·effects·specs.specs.Effect.{{effectOf, clearedOf}};
+old: ghost use Rattle.effects.specs.Effect.{{effect_of}};
+new: ghost use Rattle.effects.specs.Effect.{{effect_of, cleared_of}};
 old: pub fn effect(c: Condition, r: Request, moment: u64) -> Condition
-new: fn cleared(c: Condition) -> Condition ensures {{ λ a. ⌜ a ≡ clearedOf c ⌝ }} {{ let kept = c.{field}; let mut e = condition::empty_condition(); e.{field} = kept; e }} pub fn effect(c: Condition, r: Request, moment: u64) -> Condition
+new: fn cleared(c: Condition) -> Condition ensures {{ result ≡ cleared_of c }} {{ let kept = c.{field}; let mut e = condition::empty_condition(); e.{field} = kept; e }} pub fn effect(c: Condition, r: Request, moment: u64) -> Condition
 old:         Kind::ClearLine => condition::empty_condition(),
 new:         Kind::ClearLine => cleared(c),
 file: crates/effects/specs/Effect.antt
 old: -- what a request puts into the condition, w being the moment of its hold. It is taken only where the request is answered with 00; elsewhere its value is free,
-new: abbrev pub clearedOf : Condition → Condition
+new: abbrev pub cleared_of : Condition → Condition
 old: -- and these are the simplest
-new: clearedOf c = record {{ {after} }}
-old: effectBy c ClearLine h k w = empty
-new: effectBy c ClearLine h k w = clearedOf c
-file: crates/effects/proofs/effect/Proof.antt
-old: (c .empty-condition .ensures)
-new: (c .cleared .ensures)
-file: crates/effects/proofs/cleared/Proof.antt
-new: use borrow.Author.Needs.{{needs}}
-new: use Rattle·effects·proofs.proofs.cleared.Statement.{{statement}}
-new: use Rattle·effects·proofs.proofs.cleared.Tie as tie
-new: returns : tie.Need-returns
-new: returns c = rw (c .empty-condition .ensures)
-new: pub cleared-spec : {{M : Type 1}} → statement M
-new: cleared-spec = tie.close (tie.spec (λ c κs. search needs) returns)
+new: cleared_of c = record {{ {after} }}
+old: effect_by c ClearLine h k w = empty
+new: effect_by c ClearLine h k w = cleared_of c
+file: crates/effects/proofs/effect/Answers.antt
+old: c.empty_condition.ensures
+new: c.cleared.ensures
+file: crates/effects/proofs/cleared/Answers.antt
+new: use mathlib.Core.Path.{{refl}}
+new: use Rattle.effects.proofs.cleared.Goals as goal
+new: pub returns : goal.returns
+new: returns c = rw c.empty_condition.ensures refl
 file: crates/panel/specs/Step.antt
-old: use Rattle·condition.specs.Condition.{{empty}}
-new: use Rattle·effects.specs.Effect.{{clearedOf}}
-old: outcomeBy c ts n ClearLine h k = answered (taken empty)
-new: outcomeBy c ts n ClearLine h k = answered (taken (clearedOf c))
+old: use Rattle.condition.specs.Condition.{{empty}}
+new: use Rattle.effects.specs.Effect.{{cleared_of}}
+old: outcome_by c ts n ClearLine h k = answered (taken empty)
+new: outcome_by c ts n ClearLine h k = answered (taken (cleared_of c))
 """
 
 
@@ -361,25 +358,25 @@ file: crates/weights/src/lib.rt
 old:     if n == 0 {
 new:     if d == 0 {
 file: crates/weights/specs/Weights.antt
-old: use Prim.Native.Nat.{ℕ, _+_, _*_, min, max}
-new: use Prim.Native.Nat.{ℕ, _+_, _*_, _-_, min, max}
-old: max 1 (ceilDiv
-new: max (1 - s .tonnes) (ceilDiv
-file: crates/weights/proofs/weighed_kg/Proof.antt
-old: kg-none (c .before .before .args .s)
-new: kg-undivided (c .before .before .args .s)
-old: (omega (arith, c .before .before .if2 .left)) (omega (arith, c .before .before .before .if1 .left))
-new: (omega (arith, c .before .before .if2 .left))
+old: {Bool, ℕ, ◌+◌, ◌*◌, min, max, leb}
+new: {Bool, ℕ, ◌+◌, ◌-◌, ◌*◌, min, max, leb}
+old: max 1 (ceil_div
+new: max (1 - s.tonnes) (ceil_div
+file: crates/weights/proofs/weighed_kg/Answers.antt
+old: kg_none c.args.s
+new: kg_undivided c.args.s
+old: (kg_up_lem s (omega (arith, c.if-d-eq0.false)) (omega (arith, c.if-n-eq0.false))
+new: (kg_up_lem s (omega (arith, c.if-d-eq0.false))
 file: crates/weights/proofs/Weights.antt
-old: kg-up : 0 < s .products → s .products
-new: kg-up : s .products
-old: kg-up h m = omega (arith, up-least h,
-new: kg-up m = omega (arith, pd,
+old: kg_up_lem : 0 < s.products → s.products
+new: kg_up_lem : s.products
+old: kg_up_lem h m = omega (arith, up_least h,
+new: kg_up_lem m = omega (arith, pd,
 file: crates/weights/proofs/Items.antt
-old: kg-rounded h = kg-up s some h
-new: kg-rounded h = kg-up s some
-old: (kg-up s some p l)
-new: (kg-up s some l)
+old: kg_rounded h = kg_up_lem s some h
+new: kg_rounded h = kg_up_lem s some
+old: (kg_up_lem s some p l)
+new: (kg_up_lem s some l)
 """
 
 TOTAL_CAPPED = """
@@ -387,26 +384,22 @@ file: crates.txt
 old: panel: whole record
 new: panel: choice whole record
 file: crates/panel/src/lib.rt
-old: ghost use Prim.Native.Nat.{_≤_};
-new: ghost use Prim.Native.Nat.{_≤_, min};
-old: Replies 0 (totalReply figure) 0 r
-new: Replies 0 (totalReply (min figure 1000000000)) 0 r
+old: ghost use Rattle.std.specs.Prelude.{◌≡◌, ◌≤◌, length};
+new: ghost use Rattle.std.specs.Prelude.{◌≡◌, ◌≤◌, length, min};
+old: Replies 0 (total_reply figure) 0 result
+new: Replies 0 (total_reply (min figure 1000000000)) 0 result
 old:     let len = reply::total(out, figure);
 new:     let len = reply::total(out, choice::smaller(figure, 1000000000));
 file: crates/panel/specs/Step.antt
-old: use Prim.Native.Nat.{ℕ}
-new: use Prim.Native.Nat.{ℕ, min}
-old: reply = totalReply (c .total)
-new: reply = totalReply (min (c .total) 1000000000)
-file: crates/panel/proofs/show_total/Proof.antt
+old: ◌∷◌, ℕ, ltb, length}
+new: ◌∷◌, ℕ, ltb, length, min}
+old: reply = total_reply c.total
+new: reply = total_reply (min c.total 1000000000)
+file: crates/panel/proofs/show_total/Answers.antt
 new: use mathlib.Core.Path.{refl}
-new: use borrow.Author.Needs.{needs}
-new: use Rattle·panel·proofs.proofs.show_total.Statement.{statement}
-new: use Rattle·panel·proofs.proofs.show_total.Tie as tie
-new: returns : tie.Need-returns
-new: returns c = let t = rw (c .before .before .before .smaller .ensures) at (c .before .before .total .ensures) in record { coded = refl; long = t .0; moment = refl; written = t .1 }
-new: pub show-total-spec : {M : Type 1} → statement M
-new: show-total-spec = tie.close (tie.spec (λ c κs. search needs) (λ c κs. search needs) (λ c. search needs) returns)
+new: use Rattle.panel.proofs.show_total.Goals as goal
+new: pub returns : goal.returns
+new: returns c = let t = rw c.smaller.ensures at c.total.ensures in record { coded = refl; long = t.0; moment = refl; written = t.1 }
 """
 
 
