@@ -168,6 +168,11 @@ new: (cond (leb 0 (length ks)) Full
 file: crates/columns/src/lib.rt
 old:     if 20 <= n {
 new:     if 0 <= n {
+file: crates/columns/proofs/column_answer/Answers.antt
+old: pub returns-then-n-ge20 : goal.returns-then-n-ge20
+new: pub returns-then-n-ge0 : goal.returns-then-n-ge0
+old: returns-then-n-ge20 c =
+new: returns-then-n-ge0 c =
 file: crates/columns/proofs/Adding.antt
 old: answer_full : 20 ≤ length ks
 new: answer_full : 0 ≤ length ks
@@ -363,8 +368,14 @@ new: {Bool, ℕ, ◌+◌, ◌-◌, ◌*◌, min, max, leb}
 old: max 1 (ceil_div
 new: max (1 - s.tonnes) (ceil_div
 file: crates/weights/proofs/weighed_kg/Answers.antt
-old: kg_none c.args.s
-new: kg_undivided c.args.s
+old: pub returns-then-d-eq0 : goal.returns-then-d-eq0
+new: pub returns-then-d-eq0-2 : goal.returns-then-d-eq0-2
+old: returns-then-d-eq0 c = sym (kg_undivided c.args.s c.if-d-eq0.true)
+new: returns-then-d-eq0-2 c = sym (kg_undivided c.args.s c.if-d-eq0-2.true)
+old: pub returns-then-n-eq0 : goal.returns-then-n-eq0
+new: pub returns-then-d-eq0 : goal.returns-then-d-eq0
+old: returns-then-n-eq0 c = sym (kg_none c.args.s c.if-n-eq0.true)
+new: returns-then-d-eq0 c = sym (kg_undivided c.args.s c.if-d-eq0.true)
 old: (kg_up_lem s (omega (arith, c.if-d-eq0.false)) (omega (arith, c.if-n-eq0.false))
 new: (kg_up_lem s (omega (arith, c.if-d-eq0.false))
 file: crates/weights/proofs/Weights.antt
