@@ -128,7 +128,7 @@ new: (ltb lent 128)
 file: crates/panel/proofs/Room.antt
 old: le-ltb n 96 (omega arith)
 new: le-ltb n 128 (omega arith)
-file: crates/panel/proofs/answer/Proof.antt
+file: crates/panel/proofs/answer/Answers.antt
 old: let room : 96 ≤ length
 new: let room : 128 ≤ length
 """
@@ -143,7 +143,7 @@ new: const SHOW_ROOM: usize = 2200;
 file: crates/panel/proofs/Codes.antt
 old: (ltb lent 2100)
 new: (ltb lent 2200)
-file: crates/panel/proofs/show_form/Proof.antt
+file: crates/panel/proofs/show_form/Answers.antt
 old: 2100 (omega
 new: 2200 (omega
 old: 2100 (search rules)
