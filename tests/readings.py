@@ -93,9 +93,10 @@ def printed_limits(paper):
 
 
 def program_limits(crate):
-    """The same as crates/input names them, where the program of a crate hands these to the service."""
-    if "service::serve(input::most_lines(), input::most_bytes());" not in (support.CRATES / crate / "src" / "main.rt").read_text():
+    """The same as crates/input names them, where the program of a crate hands these, and no others, to the service."""
+    calls = re.findall(r"\bservice::serve\(([^;{}]*)\)", (support.CRATES / crate / "src" / "main.rt").read_text())
+    if len(calls) != 1 or not re.search(r"(?:^|, )input::most_lines\(\),\s+input::most_bytes\(\)$", calls[0]):
         return None
     named = (support.CRATES / "input" / "specs" / "Lines.antt").read_text()
-    found = [re.search(rf"^{name} = (\d+)$", named, re.MULTILINE) for name in ("mostLines", "mostBytes")]
+    found = [re.search(rf"^{name} = (\d+)$", named, re.MULTILINE) for name in ("most_lines", "most_bytes")]
     return tuple(int(one[1]) for one in found) if all(found) else None
