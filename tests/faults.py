@@ -349,7 +349,7 @@ file: crates/effects/proofs/cleared/Answers.antt
 new: use mathlib.Core.Path.{{refl}}
 new: use Rattle.effects.proofs.cleared.Goals as goal
 new: pub returns : goal.returns
-new: returns c = rw c.empty_condition.ensures refl
+new: returns c = rw c.empty_condition-e.ensures refl
 file: crates/panel/specs/Step.antt
 old: use Rattle.condition.specs.Condition.{{empty}}
 new: use Rattle.effects.specs.Effect.{{cleared_of}}
