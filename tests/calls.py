@@ -148,7 +148,7 @@ def crates_used():
     """Each crate of crates.txt with those that it uses."""
     lines = [line.partition("#")[0] for line in CRATES_LIST.read_text().splitlines()]
     parts = [line.partition(":") for line in lines if line.strip()]
-    return {crate.strip(): set(used.split()) for crate, _, used in parts}
+    return {crate.split()[0]: set(used.split()) for crate, _, used in parts}
 
 
 def reading_crates(uses):

@@ -410,7 +410,7 @@ file: crates/panel/proofs/show_total/Answers.antt
 new: use mathlib.Core.Path.{refl}
 new: use Rattle.panel.proofs.show_total.Goals as goal
 new: pub returns : goal.returns
-new: returns c = let t = rw c.smaller.ensures at c.total.ensures in record { coded = refl; long = t.0; moment = refl; written = t.1 }
+new: returns c = let t = rw c.smaller.ensures at c.total-len.ensures in record { coded = refl; long = t.value; moment = refl; written = t.out_after }
 """
 
 
