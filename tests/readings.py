@@ -95,7 +95,7 @@ def printed_limits(paper):
 def program_limits(crate):
     """The same as crates/input names them, where the program of a crate hands these, and no others, to the service."""
     calls = re.findall(r"\bservice::serve\(([^;{}]*)\)", (support.CRATES / crate / "src" / "main.rt").read_text())
-    if len(calls) != 1 or not re.search(r"(?:^|, )input::most_lines\(\),\s+input::most_bytes\(\)$", calls[0]):
+    if len(calls) != 1 or not re.search(r"(?:^|,)\s*input::most_lines\(\),\s*input::most_bytes\(\),?\s*$", calls[0]):
         return None
     named = (support.CRATES / "input" / "specs" / "Lines.antt").read_text()
     found = [re.search(rf"^{name} = (\d+)$", named, re.MULTILINE) for name in ("most_lines", "most_bytes")]
