@@ -50,8 +50,9 @@ def check_failures(results, name, program):
         ("input that fails inside a form", failing_input(b"(judge)\n(jud"), b"(verdict 30)\n(answer 12)\n"),
     ]:
         results.report(f"{name} {what}", wrong(run_on(program, source), right))
-    worked = os.open(REPOSITORY / "examples" / "worked.in", os.O_RDONLY)
-    results.report(f"{name} full output, nothing said", wrong(run_on(program, worked, full_device()), b""))
+    for what, output in [("full", full_device()), ("closed", closed_pipe())]:
+        worked = os.open(REPOSITORY / "examples" / "worked.in", os.O_RDONLY)
+        results.report(f"{name} {what} output, nothing said", wrong(run_on(program, worked, output), b""))
 
 
 def check_reference_limits(results, program):
