@@ -3,15 +3,16 @@ use mathlib.Core.Path.{◌≡◌, refl, ap}
 use mathlib.Core.Logic.{◌⊎◌, inl, inr}
 use Prim.Native.Nat.{ℕ, ◌+◌, ◌*◌, ◌-◌, ◌≤◌, ◌<◌, max}
 use native.Mathlib.Omega.{arith}
-use native.Mathlib.Nat.{mul-le-mul_left, mul-le-mul_right, lt_of_not-le, eq-zero-or-pos}
+use native.Mathlib.Nat.{mul-le-mul_left, lt_of_not-le, eq-zero-or-pos}
 use native.Mathlib.Decide.{dec_le}
 use Rattle.whole.specs.Divide.{ceil_div}
 use Rattle.whole.proofs.Dividing.{ceil_low, ceil_high, ceil_le}
 use Rattle.slack.specs.Deck.{uncut_moment}
 use Rattle.boards.specs.Split.{effective_length, beside_board, two_stretches, split_volume}
 use Rattle.boards.specs.Exact.{OfOne, EffectiveLength}
-use Rattle.boards.specs.Laws.{LeftOfRun, NothingLeft, OneEffectiveLength, VolumesAreMade, BoardsAddNothing, IneffectiveAlike, VolumeFits, Laws}
-use Rattle.boards.proofs.Moments.{uncut_le, beside_le, deep_uncut, separately}
+use Rattle.boards.specs.Laws.{LeftOfRun, NothingLeft, OneEffectiveLength, VolumesAreMade, BoardsAddNothing, IneffectiveAlike, Laws}
+use Rattle.boards.proofs.Moments.{deep_uncut, separately}
+use Rattle.boards.proofs.Fits.{effective_le, volume_fits_lem}
 
 -- ---- the effective length
 left_of_run_lem : LeftOfRun
@@ -75,9 +76,6 @@ tiny n e p q h = omega arith
 rounded_le : (n m : ℕ) → n ≤ m → ceil_div n 1000000000 ≤ ceil_div m 1000000000
 rounded_le n m h = ceil_le n 1000000000 (ceil_div m 1000000000) (omega arith) (omega (arith, ceil_low m 1000000000 (omega arith)))
 
-effective_le : (length run l r : ℕ) → run ≤ length → effective_length run l r ≤ length
-effective_le length run l r h = omega arith
-
 boards_add_nothing_lem : BoardsAddNothing
 unfolding split_volume
 boards_add_nothing_lem length run l r some long fits p q broad = rw (deep_uncut (l + r) broad) (by (separately l r p q))
@@ -89,16 +87,6 @@ boards_add_nothing_lem length run l r some long fits p q broad = rw (deep_uncut 
 ineffective_alike_lem : IneffectiveAlike
 unfolding split_volume
 ineffective_alike_lem length run l r h e = rw (deep_uncut (l + r) h, e) (unstretched (beside_board l r) (uncut_moment (l + r)) length)
-
--- with one more than the greatest section moment for both stretches
-volume_fits_lem : VolumeFits
-unfolding split_volume
-volume_fits_lem length run l r long fits broad =
-    bounded length (effective_length run l r) (beside_board l r) (uncut_moment (l + r)) long (effective_le length run l r fits) (beside_le l r broad) (uncut_le (l + r) broad)
-  where
-    bounded : (n e s w : ℕ) → n ≤ 60000 → e ≤ n → s ≤ 2486986666668 → w ≤ 2486986666667 → s * e + w * (n - e) ≤ 150000000000000000
-    bounded n e s w p q h k =
-        let t : n - e ≤ 60000 - e = omega arith in omega (arith, mul-le-mul_right e h, mul-le-mul_right (n - e) k)
 
 -- ---- all of them
 pub laws : Laws

@@ -1,2 +1,3 @@
 pub mod Moments
+pub mod Fits
 pub mod Laws

@@ -35,7 +35,8 @@ use Rattle.request.specs.Shape.{weight?, line?}
 use Rattle.sending.specs.Printed.{word, number, numbers, form, each_form, rule_word, ship_tokens, load_tokens, column_tokens, cell_tokens, section_items, part_items, part_tokens, mode_word, hold_tokens, item_tokens}
 use Rattle.sending.proofs.Decimals.{decimal_is_read_back}
 use Rattle.sending.proofs.Lines.{Fine, fine_none, fine_more, fine_token, fine_append, fine_brackets, fine_form, Small, fine_number, fine_numbers, Asks}
-use Rattle.sending.proofs.Refilled.{slack_numbers, refilled_part, refilled, GoodPart, GoodHold}
+use Rattle.sending.proofs.Numbers.{wing_numbers, slack_numbers}
+use Rattle.sending.proofs.Refilled.{refilled_part, refilled, GoodPart, GoodHold}
 
 pub each_from : {A : Type 0} (P : A → Type 0) (l : List A) (d : A) → ((i : ℕ) → i < length l → P (get_or l i d)) → Each P l
 each_from P [] d f = tt
@@ -86,7 +87,7 @@ module _ {A B : Type 0} {P : A → Type 0} (item : List Token → Parsed B) (pri
 print_cell : (c : Cell) → CellRange c → Prints cell? c 37 (cell_tokens c)
 unfolding cell? head? open? run? close? named same all within
 print_cell (Wing w d g l) r =
-    let vs : List ℕ = w ∷ d ∷ g ∷ l ∷ [] in
+    let vs : List ℕ = wing_numbers w d g l in
     let s : Each Small vs = (omega arith, (omega arith, (omega arith, (omega arith, tt)))) in
     record { fine = fine_form "wing" refl refl (fine_numbers vs s); reads = λ us. rw (read_last vs us s); opens = λ us. refl }
 print_cell (Hatch w o l) r =

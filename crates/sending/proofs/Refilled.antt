@@ -26,10 +26,7 @@ use Rattle.forms.specs.Shape.{hold_record}
 use Rattle.condition.specs.Condition.{is_held}
 use Rattle.operations.proofs.Effects.{HoldPassed}
 use Rattle.sending.specs.Sending.{SamePart, SameHold}
-
--- the numbers of a part that is partly filled, as they are printed
-abbrev pub slack_numbers : Part → List ℕ
-slack_numbers p = p.length ∷ p.breadth ∷ p.void ∷ p.grain ∷ []
+use Rattle.sending.proofs.Numbers.{slack_numbers}
 
 abbrev pub refilled_part : Mode → Part → Part
 refilled_part Trimmed p = section_record p.length (cells_of p)
