@@ -1,12 +1,11 @@
 -- The cells of a part, as the code reads them from its array, and what is read past the end of an array.
-use mathlib.Core.Path.{◌≡◌, ap, ◌∙◌}
+use mathlib.Core.Path.{◌≡◌}
 use mathlib.Core.List.{[]}
 use Prim.Native.Nat.{ℕ, ◌≤◌, ◌<◌}
-use lib.ListN.{length, get_or, take, length-map, get_or-map}
+use lib.ListN.{length, get_or}
 use lib.Seq.{length-take-le, get_or-take}
 use Rattle.record.specs.declared.Cell.{Cell}
 use Rattle.record.specs.declared.Cell.TheVariants.{Wing}
-use Rattle.record.specs.declared.Slot.{Slot}
 use Rattle.record.specs.declared.Part.{Part}
 use Rattle.record.specs.declared.Mode.TheVariants.{Trimmed}
 use Rattle.record.specs.declared.Hold.{Hold}
@@ -16,9 +15,6 @@ use Rattle.record.specs.Held.{cells_of}
 -- what is read past the end of an array: zeros, the first variant, empty lists
 abbrev pub past_cell : Cell
 past_cell = Wing 0 0 0 0
-
-abbrev pub past_slot : Slot
-past_slot = record { cell = past_cell }
 
 abbrev pub past_part : Part
 past_part = record { length = 0; breadth = 0; void = 0; grain = 0; count = 0; cells = [] }
@@ -31,9 +27,7 @@ past_column = record { d = 0; km = 0; kn = [] }
 
 module _ (p : Part) (fits : p.count ≤ length p.cells) where
   pub cells_length : length (cells_of p) ≡ p.count
-  cells_length = length-map (take p.count p.cells) (λ s. s.cell) ∙ length-take-le p.count p.cells fits
+  cells_length = length-take-le p.count p.cells fits
 
-  pub cell_at : (i : ℕ) → i < p.count → get_or (cells_of p) i past_cell ≡ (get_or p.cells i past_slot).cell
-  cell_at i h =
-      get_or-map (λ (s : Slot). s.cell) (take p.count p.cells) i past_slot
-      ∙ ap (λ (s : Slot). s.cell) (get_or-take p.count p.cells i past_slot h)
+  pub cell_at : (i : ℕ) → i < p.count → get_or (cells_of p) i past_cell ≡ get_or p.cells i past_cell
+  cell_at i h = get_or-take p.count p.cells i past_cell h

@@ -2,7 +2,7 @@
 use Rattle.std.specs.Prelude.{List, ◌++◌, ℕ, ◌-◌, length, replicate}
 use Rattle.record.specs.declared.Mode.TheVariants.{Trimmed}
 use Rattle.record.specs.declared.Cell.TheVariants.{Void}
-use Rattle.record.specs.declared.Slot.{Slot}
+use Rattle.record.specs.declared.Cell.{Cell}
 use Rattle.record.specs.declared.Part.{Part}
 use Rattle.record.specs.declared.Hold.{Hold}
 use Rattle.record.specs.declared.Column.{Column}
@@ -10,11 +10,11 @@ use Rattle.record.specs.declared.Columns.{Columns}
 use Rattle.record.specs.declared.WeightItem.{WeightItem}
 use Rattle.record.specs.declared.ItemSums.{ItemSums}
 
-abbrev pub no_slot : Slot
-no_slot = record { cell = Void 0 0 0 }
+abbrev pub no_cell : Cell
+no_cell = Void 0 0 0
 
 abbrev pub no_part : Part
-no_part = record { length = 0; breadth = 0; void = 0; grain = 0; count = 0; cells = replicate 8 no_slot }
+no_part = record { length = 0; breadth = 0; void = 0; grain = 0; count = 0; cells = replicate 8 no_cell }
 
 -- a place where no hold is held
 abbrev pub no_hold : Hold

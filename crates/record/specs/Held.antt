@@ -1,5 +1,5 @@
 -- What a record holds: the used places of its arrays, and what cells of every kind have.
-use Rattle.std.specs.Prelude.{List, map, ℕ, ◌-◌, length, get_or, take}
+use Rattle.std.specs.Prelude.{List, ℕ, ◌-◌, length, get_or, take}
 use Rattle.record.specs.declared.Cell.{Cell}
 use Rattle.record.specs.declared.Cell.TheVariants.{Wing, Hatch, Void}
 use Rattle.record.specs.declared.Part.{Part}
@@ -22,7 +22,7 @@ cell_lip (Void w d l) = l
 
 -- the cells of a part, from the low side to the high side
 abbrev pub cells_of : Part → List Cell
-cells_of p = map (λ s. s.cell) (take p.count p.cells)
+cells_of p = take p.count p.cells
 
 -- the parts of a hold
 abbrev pub parts_of : Hold → List Part

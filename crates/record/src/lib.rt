@@ -3,7 +3,7 @@
 
 ghost use Rattle.std.specs.Prelude.{◌≡◌};
 ghost use Rattle.record.specs.Held.{cell_width, cell_lip};
-ghost use Rattle.record.specs.Filler.{no_slot, no_part, no_hold, no_column, no_columns, no_sums};
+ghost use Rattle.record.specs.Filler.{no_cell, no_part, no_hold, no_column, no_columns, no_sums};
 
 // The rule that judges the ship, with the angle of deck-edge immersion, in hundredths of a degree.
 #[derive(Clone, Copy)]
@@ -70,12 +70,6 @@ pub enum Cell {
     },
 }
 
-// A field that is an array of enums is not covered by the prover's walk; an array of structs is.
-#[derive(Clone, Copy)]
-pub struct Slot {
-    pub cell: Cell,
-}
-
 // A part of a hold: a trimmed or voided one has cells, the first `count` of the eight places; a partly filled one has
 // breadth, void and grain.
 #[derive(Clone, Copy)]
@@ -85,7 +79,7 @@ pub struct Part {
     pub void: u16,
     pub grain: u16,
     pub count: u8,
-    pub cells: [Slot; 8],
+    pub cells: [Cell; 8],
 }
 
 // A hold's mode, stowage factor and number of parts: none where no hold is held.
@@ -128,22 +122,7 @@ pub fn width_of(cell: Cell) -> u16
     ensures { result ≡ cell_width cell }
 {
     match cell {
-        Cell::Wing {
-            width,
-            dist: _,
-            girder: _,
-            lip: _,
-        } => width,
-        Cell::Hatch {
-            width,
-            opening: _,
-            lip: _,
-        } => width,
-        Cell::Void {
-            width,
-            depth: _,
-            lip: _,
-        } => width,
+        Cell::Wing { width, .. } | Cell::Hatch { width, .. } | Cell::Void { width, .. } => width,
     }
 }
 
@@ -151,43 +130,25 @@ pub fn lip_of(cell: Cell) -> u16
     ensures { result ≡ cell_lip cell }
 {
     match cell {
-        Cell::Wing {
-            width: _,
-            dist: _,
-            girder: _,
-            lip,
-        } => lip,
-        Cell::Hatch {
-            width: _,
-            opening: _,
-            lip,
-        } => lip,
-        Cell::Void {
-            width: _,
-            depth: _,
-            lip,
-        } => lip,
+        Cell::Wing { lip, .. } | Cell::Hatch { lip, .. } | Cell::Void { lip, .. } => lip,
     }
 }
 
 // What unused places hold.
-fn no_slot() -> Slot
-    ensures { result ≡ no_slot }
+fn no_cell() -> Cell
+    ensures { result ≡ no_cell }
 {
-    Slot {
-        cell: Cell::Void {
-            width: 0,
-            depth: 0,
-            lip: 0,
-        },
+    Cell::Void {
+        width: 0,
+        depth: 0,
+        lip: 0,
     }
 }
 
 pub fn no_part() -> Part
     ensures { result ≡ no_part }
 {
-    let s = no_slot();
-    let cells = [s; 8];
+    let cells = [no_cell(); 8];
     Part {
         length: 0,
         breadth: 0,
@@ -201,8 +162,7 @@ pub fn no_part() -> Part
 pub fn no_hold() -> Hold
     ensures { result ≡ no_hold }
 {
-    let p = no_part();
-    let parts = [p; 6];
+    let parts = [no_part(); 6];
     let head = Head {
         mode: Mode::Trimmed,
         factor: 0,
@@ -221,8 +181,7 @@ pub fn no_column() -> Column
 pub fn no_columns() -> Columns
     ensures { result ≡ no_columns }
 {
-    let k = no_column();
-    let places = [k; 20];
+    let places = [no_column(); 20];
     Columns { count: 0, places }
 }
 
