@@ -1,7 +1,0 @@
--- `wing_limits`
-use Rattle.limits.specs.Limits.{cell_limits}
-use Rattle.hold_limits.proofs.wing_limits.Goals as goal
-
-pub returns : goal.returns
-unfolding cell_limits
-returns c = cc
