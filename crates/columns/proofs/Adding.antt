@@ -10,7 +10,8 @@ use borrow.Author.Tests.{le-leb, lt-leb, lt-ltb, ltb-true}
 use lib.ListN.{length, get_or, take}
 use lib.Seq.{take-length}
 use Rattle.record.specs.declared.Column.{Column}
-use Rattle.columns.specs.declared.Added.TheVariants.{Taken, Limits, Full, NotAbove}
+use Rattle.std.specs.Prelude.{Ok, Err}
+use Rattle.columns.specs.declared.NotAdded.TheVariants.{Limits, Full, NotAbove}
 use Rattle.limits.specs.Limits.{column_limits}
 use Rattle.columns.specs.Columns.{is_above, column_answer}
 
@@ -41,15 +42,15 @@ above_none d l n e = rw e refl
 
 -- the answers of a list of columns, each by the test that gives it
 module _ (ks : List Column) (k : Column) where
-  pub answer_limits : column_limits k ≡ false → Limits ≡ column_answer ks k
+  pub answer_limits : column_limits k ≡ false → Err Limits ≡ column_answer ks k
   unfolding column_answer
   answer_limits e = rw e refl
 
   module _ (good : column_limits k ≡ true) where
-    pub answer_full : 20 ≤ length ks → Full ≡ column_answer ks k
+    pub answer_full : 20 ≤ length ks → Err Full ≡ column_answer ks k
     unfolding column_answer
     answer_full h = rw (good, le-leb 20 (length ks) h) refl
 
-    pub answer_above : (b : Bool) → length ks < 20 → is_above k.d ks ≡ b → cond b Taken NotAbove ≡ column_answer ks k
+    pub answer_above : (b : Bool) → length ks < 20 → is_above k.d ks ≡ b → cond b (Ok tt) (Err NotAbove) ≡ column_answer ks k
     unfolding column_answer
     answer_above b h e = rw (good, lt-leb 20 (length ks) h, e) refl

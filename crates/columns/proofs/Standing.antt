@@ -15,8 +15,7 @@ use Rattle.record.specs.declared.Column.{Column}
 use Rattle.record.specs.Held.{last_d}
 use Rattle.record.specs.Filler.{no_column}
 use Rattle.limits.specs.Limits.{column_limits}
-use Rattle.columns.specs.declared.Around.{Around}
-use Rattle.columns.specs.declared.Around.TheVariants.{At, Outside}
+use Rattle.std.specs.Prelude.{Option, Some, None}
 use Rattle.columns.specs.Columns.{in_order}
 use Rattle.columns.specs.Search.{next, columns_around}
 
@@ -38,10 +37,10 @@ first_le a (b ∷ ks) e =
     let t = rising a b ks e in
     omega (arith, t.0, first_le b ks t.1, last_more a b ks)
 
-next_outside : (x : Around) → next x ≡ Outside → x ≡ Outside
-next_outside (At i) e =
+next_outside : (x : Option ℕ) → next x ≡ None → x ≡ None
+next_outside (Some i) e =
     let z : ◌≡◌ {A = ℕ} 0 1 = cc in absurd (omega arith)
-next_outside Outside e = refl
+next_outside None e = refl
 
 -- inside the first pair; or what the rest answers
 module _ (d : ℕ) (a b : Column) (ks : List Column) where
@@ -49,31 +48,31 @@ module _ (d : ℕ) (a b : Column) (ks : List Column) where
   unfolding columns_around
   skipped e = rw e refl
 
-  found : (leb a.d d && leb d b.d) ≡ true → columns_around d (a ∷ b ∷ ks) ≡ At 0
+  found : (leb a.d d && leb d b.d) ≡ true → columns_around d (a ∷ b ∷ ks) ≡ Some 0
   unfolding columns_around
   found e = rw e refl
 
   -- not in the first pair, though not below it: beyond it, and outside the rest
-  apart : a.d ≤ d → columns_around d (a ∷ b ∷ ks) ≡ Outside → (b.d < d) × (columns_around d (b ∷ ks) ≡ Outside)
+  apart : a.d ≤ d → columns_around d (a ∷ b ∷ ks) ≡ None → (b.d < d) × (columns_around d (b ∷ ks) ≡ None)
   apart f o = go (dec_le d b.d)
     where
-      clash : At 0 ≡ Outside → ⊥
+      clash : ◌≡◌ {A = Option ℕ} (Some 0) None → ⊥
       clash z = let y : ◌≡◌ {A = ℕ} 0 1 = cc in omega arith
 
-      go : Dec (d ≤ b.d) → (b.d < d) × (columns_around d (b ∷ ks) ≡ Outside)
+      go : Dec (d ≤ b.d) → (b.d < d) × (columns_around d (b ∷ ks) ≡ None)
       go (yes h) = absurd (clash (sym (found (rw (le-leb a.d d f, le-leb d b.d h) refl)) ∙ o))
       go (no h) =
           let w : b.d < d = lt_of_not-le h in
           (w, next_outside _ (sym (skipped (rw (le-leb a.d d f, lt-leb d b.d w) refl)) ∙ o))
 
-pub below_outside : (d : ℕ) (a : Column) (ks : List Column) → in_order (a ∷ ks) ≡ true → d < a.d → columns_around d (a ∷ ks) ≡ Outside
+pub below_outside : (d : ℕ) (a : Column) (ks : List Column) → in_order (a ∷ ks) ≡ true → d < a.d → columns_around d (a ∷ ks) ≡ None
 unfolding columns_around
 below_outside d a [] e h = refl
 below_outside d a (b ∷ ks) e h =
     let t = rising a b ks e in
     rw (lt-leb a.d d h) (ap next (below_outside d b ks t.1 (omega (arith, t.0))))
 
-pub above_outside : (d : ℕ) (a : Column) (ks : List Column) → in_order (a ∷ ks) ≡ true → last_d (a ∷ ks) < d → columns_around d (a ∷ ks) ≡ Outside
+pub above_outside : (d : ℕ) (a : Column) (ks : List Column) → in_order (a ∷ ks) ≡ true → last_d (a ∷ ks) < d → columns_around d (a ∷ ks) ≡ None
 unfolding columns_around
 above_outside d a [] e h = refl
 above_outside d a (b ∷ ks) e h =
@@ -82,16 +81,16 @@ above_outside d a (b ∷ ks) e h =
     let m : b.d < d = omega (arith, first_le b ks t.1) in
     rw (le-leb a.d d (omega (arith, t.0)), lt-leb d b.d m) (ap next (above_outside d b ks t.1 l))
 
-pub between_found : (d : ℕ) (a b : Column) (ks : List Column) → a.d ≤ d → d ≤ last_d (a ∷ b ∷ ks) → columns_around d (a ∷ b ∷ ks) ≡ Outside → ⊥
+pub between_found : (d : ℕ) (a b : Column) (ks : List Column) → a.d ≤ d → d ≤ last_d (a ∷ b ∷ ks) → columns_around d (a ∷ b ∷ ks) ≡ None → ⊥
 between_found d a b [] f t o = omega (arith, (apart d a b [] f o).0, last_more a b [])
 between_found d a b (c ∷ ks) f t o =
     let p = apart d a b (c ∷ ks) f o in
     between_found d b c ks (le_of_lt p.0) (omega (arith, last_more a b (c ∷ ks))) p.1
 
 -- ---- what a place found says: the two columns there stand around D
-moved_at : (x : Around) (i : ℕ) → next x ≡ At i → (j : ℕ) × (i ≡ suc j) × (x ≡ At j)
-moved_at (At j) i e = (j, cc, refl)
-moved_at Outside i e =
+moved_at : (x : Option ℕ) (i : ℕ) → next x ≡ Some i → (j : ℕ) × (i ≡ suc j) × (x ≡ Some j)
+moved_at (Some j) i e = (j, cc, refl)
+moved_at None i e =
     let z : ◌≡◌ {A = ℕ} 0 1 = cc in absurd (omega arith)
 
 pub record Standing (d : ℕ) (ks : List Column) (i : ℕ) : Type 0 where
@@ -120,7 +119,7 @@ limits_first a [] e = e
 limits_first a (b ∷ ks) e =
     (and_true (column_limits a) (ltb a.d b.d) (and_true (column_limits a && ltb a.d b.d) (in_order (b ∷ ks)) e).0).0
 
-pub around_at : (d : ℕ) (ks : List Column) (i : ℕ) → in_order ks ≡ true → columns_around d ks ≡ At i → Standing d ks i
+pub around_at : (d : ℕ) (ks : List Column) (i : ℕ) → in_order ks ≡ true → columns_around d ks ≡ Some i → Standing d ks i
 unfolding columns_around
 around_at d [] i o e =
     let z : ◌≡◌ {A = ℕ} 0 1 = cc in absurd (omega arith)
@@ -129,9 +128,9 @@ around_at d (a ∷ []) i o e =
 around_at d (a ∷ b ∷ ks) i o e =
     go (leb a.d d && leb d b.d) refl (λ j f. around_at d (b ∷ ks) j (rising a b ks o).1 f)
   where
-    go : (t : Bool) → (leb a.d d && leb d b.d) ≡ t → ((j : ℕ) → columns_around d (b ∷ ks) ≡ At j → Standing d (b ∷ ks) j) → Standing d (a ∷ b ∷ ks) i
+    go : (t : Bool) → (leb a.d d && leb d b.d) ≡ t → ((j : ℕ) → columns_around d (b ∷ ks) ≡ Some j → Standing d (b ∷ ks) j) → Standing d (a ∷ b ∷ ks) i
     go true f more =
-        let z : At 0 ≡ At i = sym (found d a b ks f) ∙ e in
+        let z : ◌≡◌ {A = Option ℕ} (Some 0) (Some i) = sym (found d a b ks f) ∙ e in
         let q : 0 ≡ i = cc in
         let t = and_true (leb a.d d) (leb d b.d) f in
         let r = rising a b ks o in

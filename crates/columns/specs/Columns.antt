@@ -1,9 +1,9 @@
 -- Document 01, Column: what a list of columns answers to one more.
-use Rattle.std.specs.Prelude.{Bool, true, not, cond, ◌&&◌, List, [], ◌∷◌, ℕ, ◌+◌, leb, ltb, length, set}
+use Rattle.std.specs.Prelude.{Bool, true, not, cond, ◌&&◌, Result, Ok, Err, List, [], ◌∷◌, ℕ, ◌+◌, leb, ltb, length, set}
 use Rattle.record.specs.declared.Column.{Column}
 use Rattle.record.specs.declared.Columns.{Columns}
-use Rattle.columns.specs.declared.Added.{Added}
-use Rattle.columns.specs.declared.Added.TheVariants.{Taken, Limits, Full, NotAbove}
+use Rattle.columns.specs.declared.NotAdded.{NotAdded}
+use Rattle.columns.specs.declared.NotAdded.TheVariants.{Limits, Full, NotAbove}
 use Rattle.limits.specs.Limits.{column_limits}
 
 -- D is above the last column's, if there is one
@@ -13,9 +13,10 @@ is_above d (k ∷ []) = ltb k.d d
 is_above d (k ∷ m ∷ ks) = is_above d (m ∷ ks)
 
 -- Outside its limits; twenty are held; D not above the last one's: in this order.
-unfoldable pub column_answer : List Column → Column → Added
+unfoldable pub column_answer : List Column → Column → Result (Unit {0}) NotAdded
 column_answer ks k =
-    cond (not (column_limits k)) Limits (cond (leb 20 (length ks)) Full (cond (is_above k.d ks) Taken NotAbove))
+    cond (not (column_limits k)) (Err Limits)
+    (cond (leb 20 (length ks)) (Err Full) (cond (is_above k.d ks) (Ok tt) (Err NotAbove)))
 
 -- each column within its limits and above the one before
 unfoldable pub in_order : List Column → Bool
@@ -24,11 +25,14 @@ in_order (k ∷ []) = column_limits k
 in_order (k ∷ m ∷ ks) = column_limits k && ltb k.d m.d && in_order (m ∷ ks)
 
 -- the paper's code for each answer
-abbrev pub added_code : Added → ℕ
-added_code Taken = 0
-added_code Limits = 20
-added_code Full = 23
-added_code NotAbove = 22
+abbrev pub not_added_code : NotAdded → ℕ
+not_added_code Limits = 20
+not_added_code Full = 23
+not_added_code NotAbove = 22
+
+abbrev pub added_code : Result (Unit {0}) NotAdded → ℕ
+added_code (Ok done) = 0
+added_code (Err why) = not_added_code why
 
 -- the columns with one more
 abbrev pub with_column : Columns → Column → Columns

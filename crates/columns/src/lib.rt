@@ -1,49 +1,36 @@
 // The list of columns: what it answers to one more, the list with it, and the two columns around a displacement.
 #![tactic(auto)]
 
-ghost use Rattle.std.specs.Prelude.{◌≡◌, ◌&&◌, ◌<◌, leb};
+ghost use Rattle.std.specs.Prelude.{◌≡◌, ◌<◌};
 ghost use Rattle.record.specs.Held.{held};
 ghost use Rattle.columns.specs.Columns.{column_answer, in_order, with_column};
 ghost use Rattle.columns.specs.Search.{columns_around};
 
 use record::{Column, Columns};
 
-// The place of the first of two neighbouring columns around a displacement.
-#[derive(Clone, Copy)]
-pub enum Around {
-    At(usize),
-    Outside,
-}
-
-// What a list of columns answers to one more.
-#[derive(Clone, Copy)]
-pub enum Added {
-    Taken,
+// Why a list of columns does not take one more.
+#[derive(Clone, Copy, Debug, PartialEq, Eq)]
+pub enum NotAdded {
     Limits,
     Full,
     NotAbove,
 }
 
 // What the columns held answer to one more.
-pub fn column_answer(cs: Columns, k: Column) -> Added
+pub fn column_answer(cs: Columns, k: Column) -> Result<(), NotAdded>
     ensures { result ≡ column_answer (held cs) k }
 {
     if !limits::column_limits(k) {
-        return Added::Limits;
+        return Err(NotAdded::Limits);
     }
     let n = cs.count as usize;
     if 20 <= n {
-        return Added::Full;
+        return Err(NotAdded::Full);
     }
-    if n == 0 {
-        return Added::Taken;
+    if 0 < n && k.d <= cs.places[n - 1].d {
+        return Err(NotAdded::NotAbove);
     }
-    let last = cs.places[n - 1];
-    if last.d < k.d {
-        Added::Taken
-    } else {
-        Added::NotAbove
-    }
+    Ok(())
 }
 
 // The columns with one more.
@@ -58,49 +45,32 @@ pub fn with_column(cs: Columns, k: Column) -> Columns
     t
 }
 
-// Whether low <= d <= high.
-fn is_between(low: u32, d: u32, high: u32) -> bool
-    ensures { result ≡ (leb low d && leb d high) }
-{
-    if low <= d { d <= high } else { false }
-}
-
-// The first two neighbouring columns around d.
-pub fn columns_around(cs: Columns, d: u32) -> Around
+// The place of the first of two neighbouring columns around d.
+pub fn columns_around(cs: Columns, d: u32) -> Option<usize>
     ensures { result ≡ columns_around d (held cs) }
 {
-    let n = choice::smaller(cs.count as u64, 20) as usize;
-    let mut i: usize = 0;
-    while i + 1 < n {
-        let a = cs.places[i];
-        let b = cs.places[i + 1];
-        if is_between(a.d, d, b.d) {
-            return Around::At(i);
+    let n = (cs.count as usize).min(20);
+    for i in 0..n.saturating_sub(1) {
+        if cs.places[i].d <= d && d <= cs.places[i + 1].d {
+            return Some(i);
         }
-        i += 1;
     }
-    Around::Outside
+    None
 }
 
 // Whether each column held is within its limits and above the one before.
 pub fn in_order(cs: Columns) -> bool
     ensures { result ≡ in_order (held cs) }
 {
-    let n = choice::smaller(cs.count as u64, 20) as usize;
-    let mut i: usize = 0;
-    while i < n {
+    let n = (cs.count as usize).min(20);
+    for i in 0..n {
         let k = cs.places[i];
         if !limits::column_limits(k) {
             return false;
         }
-        if n <= i + 1 {
-            return true;
-        }
-        let m = cs.places[i + 1];
-        if m.d <= k.d {
+        if i + 1 < n && cs.places[i + 1].d <= k.d {
             return false;
         }
-        i += 1;
     }
     true
 }

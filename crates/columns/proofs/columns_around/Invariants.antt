@@ -1,6 +1,6 @@
 -- `columns_around`: the first two neighbouring columns around d.
 use mathlib.Core.Path.{◌≡◌}
-use Prim.Native.Nat.{◌-◌, ◌≤◌}
+use Prim.Native.Nat.{◌≤◌}
 use lib.ListN.{length, drop}
 use Rattle.record.specs.Held.{held}
 use Rattle.columns.specs.Search.{columns_around}
@@ -8,7 +8,4 @@ use Rattle.columns.proofs.Searching.{moved}
 use Rattle.columns.proofs.columns_around.Given as goal
 
 abbrev pub invariant-loop-i : goal.invariant-loop-i
-invariant-loop-i l = (length l.cs.places ≡ 20) × (l.n ≡ length (held l.cs)) × (l.n ≤ 20) × (l.i ≤ 20) × (moved l.i (columns_around l.d (drop l.i (held l.cs))) ≡ columns_around l.d (held l.cs))
-
-abbrev pub decreases-loop-i : goal.decreases-loop-i
-decreases-loop-i l = l.n - l.i
+invariant-loop-i l = (length l.cs.places ≡ 20) × (l.n ≡ length (held l.cs)) × (l.n ≤ 20) × (moved l.i (columns_around l.d (drop l.i (held l.cs))) ≡ columns_around l.d (held l.cs))
