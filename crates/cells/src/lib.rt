@@ -25,6 +25,7 @@ const DEPTHS: [u64; 16] = [
 ];
 
 // 500 times the standard depth at the distance x.
+#[tactic(auto, using(crate::proofs::Depths::below_first, crate::proofs::Depths::above_last, crate::proofs::Depths::between, crate::proofs::Depths::between_le))]
 fn standard_depth(x: u64) -> u64
     requires { x < 65536 }
     ensures value { result ≡ standard_depth x }
@@ -41,58 +42,32 @@ fn standard_depth(x: u64) -> u64
     DEPTHS[i - 1] * (500 - past) + DEPTHS[i] * past
 }
 
-// The greater of two.
-fn greater(a: u64, b: u64) -> u64
-    ensures { result ≡ max a b }
-{
-    if a <= b { b } else { a }
-}
-
 // A wing's depth in tenths of a mm, rounded up once.
+#[tactic(auto, unfolding(crate::specs::Depth::wing_depth))]
 fn wing_depth(dist: u64, girder: u64) -> u64
     requires { (dist < 65536) × (girder < 65536) }
     ensures value { result ≡ wing_depth dist girder }
     ensures upper_bound { result < 2 ^ 20 }
 {
-    let raised = standard_depth(dist) + 375 * girder;
-    whole::divide_up(greater(500 * 100, choice::beyond(raised, 375 * 600)), 50)
+    let raised = (standard_depth(dist) + 375 * girder).saturating_sub(375 * 600);
+    whole::divide_up(raised.max(500 * 100), 50)
 }
 
 // A cell's depth in tenths of a mm.
+#[tactic(auto, unfolding(crate::specs::Depth::cell_depth))]
 fn depth_of(cell: Cell) -> u64
     ensures value { result ≡ cell_depth cell }
     ensures upper_bound { result < 2 ^ 20 }
 {
     match cell {
-        Cell::Wing {
-            width: _,
-            dist,
-            girder,
-            lip: _,
-        } => wing_depth(dist as u64, girder as u64),
-        Cell::Hatch {
-            width: _,
-            opening,
-            lip: _,
-        } => 10 * (opening as u64 + 150),
-        Cell::Void {
-            width: _,
-            depth,
-            lip: _,
-        } => 10 * depth as u64,
+        Cell::Wing { dist, girder, .. } => wing_depth(dist as u64, girder as u64),
+        Cell::Hatch { opening, .. } => 10 * (opening as u64 + 150),
+        Cell::Void { depth, .. } => 10 * depth as u64,
     }
 }
 
-// An area from tenths of a mm² to whole mm², rounded up once: never less void than there is. Apart, so that the prover meets the division
-// by itself.
-fn whole_area(tenths: u64) -> u64
-    requires { tenths < 2 ^ 40 }
-    ensures { result ≡ ceil_div tenths 10 }
-{
-    whole::divide_up(tenths, 10)
-}
-
 // The most that a cell of width w can hold against a lip g.
+#[tactic(auto, using(crate::proofs::Sizes::most_triangle, crate::proofs::Sizes::most_trapezium, crate::proofs::Sizes::most_taken))]
 fn most_held(w: u64, g: u64) -> u64
     requires { (w < 65536) × (g < 65536) }
     ensures { result ≡ most_held w g }
@@ -104,6 +79,8 @@ fn most_held(w: u64, g: u64) -> u64
     }
 }
 
+// The area is rounded up once, from tenths of a mm² to whole mm²: never less void than there is.
+#[tactic(auto, unfolding(crate::specs::Depth::cell_area))]
 pub fn sizes_of(cell: Cell) -> CellSizes
     ensures { result ≡ sizes_of cell }
 {
@@ -111,7 +88,7 @@ pub fn sizes_of(cell: Cell) -> CellSizes
     let lip = record::lip_of(cell) as u64;
     CellSizes {
         width,
-        area: whole_area(width * depth_of(cell)),
+        area: whole::divide_up(width * depth_of(cell), 10),
         most: most_held(width, lip),
     }
 }
