@@ -9,7 +9,7 @@ fn deduction_of(left: u64, right: u64) -> u64
     requires { left + right ≤ 40000 }
     ensures { result ≡ deduction left right }
 {
-    whole::divide_up(2 * choice::greater(left, right), 7)
+    whole::divide_up(2 * left.max(right), 7)
 }
 
 // The length over which the board is effective.
@@ -17,10 +17,11 @@ fn effective_length(run: u64, left: u64, right: u64) -> u64
     requires { left + right ≤ 40000 }
     ensures { result ≡ effective_length run left right }
 {
-    choice::beyond(run, deduction_of(left, right))
+    run.saturating_sub(deduction_of(left, right))
 }
 
 // The section moment where the two breadths shift separately.
+#[tactic(auto, using(crate::proofs::Moments::uncut_le))]
 fn beside_board(left: u64, right: u64) -> u64
     requires { left + right ≤ 40000 }
     ensures { result ≡ beside_board left right }
@@ -29,6 +30,7 @@ fn beside_board(left: u64, right: u64) -> u64
 }
 
 // The two breadths over the length e, both as one over the rest.
+#[tactic(auto, using(crate::proofs::Moments::two_le, crate::proofs::Moments::one_le))]
 fn two_stretches(length: u64, e: u64, left: u64, right: u64) -> u64
     requires { (length ≤ 65535) × (e ≤ length) × (left + right ≤ 40000) }
     ensures { result ≡ two_stretches length e left right }
@@ -37,6 +39,7 @@ fn two_stretches(length: u64, e: u64, left: u64, right: u64) -> u64
 }
 
 // A part of this length beside a board of this run.
+#[tactic(auto, unfolding(crate::specs::Split::split_volume))]
 pub fn split_volume(length: u16, run: u16, left: u16, right: u16) -> u64
     requires { (run ≤ length) × (left + right ≤ 40000) }
     ensures { result ≡ split_volume length run left right }

@@ -1,9 +1,9 @@
 // Partly filled sections under a deck: the section moment in mm³, from breadth, void and grain in mm.
 #![tactic(auto)]
 
-ghost use Rattle.std.specs.Prelude.{◌≡◌, ◌+◌, ◌*◌, ◌<◌, ◌≤◌, ◌^◌};
-ghost use Rattle.whole.specs.Divide.{ceil_div};
-ghost use Rattle.slack.specs.Deck.{uncut_moment, base, triangle_moment, neither_moment, deck_moment};
+ghost use Rattle.std.specs.Prelude.{◌≡◌, ◌+◌, ◌*◌, ◌/◌, ◌<◌, ◌≤◌, ◌^◌};
+ghost use Rattle.whole.specs.Root.{root};
+ghost use Rattle.slack.specs.Deck.{uncut_moment, triangle_moment, neither_moment, deck_moment};
 ghost use Rattle.slack.specs.Exact.{Crosses};
 ghost use Rattle.slack.specs.Walk.{Sizes};
 
@@ -22,32 +22,26 @@ pub fn uncut_moment(b: u64) -> u64
     whole::divide_up(SLOPE_25 * (b * (b * b)), 1200000)
 }
 
-// The base of a triangle of this area, rounded down.
-fn base_of(area: u64) -> u64
-    requires { area ≤ 2 ^ 40 }
-    ensures { result ≡ base area }
+// The base of a triangle of this area under a line of this slope, in hundred-thousandths, rounded down.
+pub fn base_of(slope: u64, area: u64) -> u64
+    requires { (0 < slope) × (area ≤ 2 ^ 40) }
+    ensures { result ≡ root (200000 * area / slope) }
 {
-    whole::root_of(200000 * area / SLOPE_25)
-}
-
-// n / 6, rounded up.
-fn sixth_up(n: u64) -> u64
-    requires { n ≤ 2 ^ 48 }
-    ensures { result ≡ ceil_div n 6 }
-{
-    whole::divide_up(n, 6)
+    whole::root_of(200000 * area / slope)
 }
 
 // The lesser of void and grain, m deep, lies as a triangle.
+#[tactic(auto, using(crate::proofs::Triangles::area_small, crate::proofs::Triangles::lever_above, crate::proofs::Triangles::lever_fits))]
 fn triangle_moment(b: u64, m: u64) -> u64
     requires { (b ≤ 65535) × (200000 * m < 46631 * b) }
     ensures { result ≡ triangle_moment b (b * m) }
 {
     let area = b * m;
-    sixth_up(area * (3 * b - 2 * base_of(area)))
+    whole::divide_up(area * (3 * b - 2 * base_of(SLOPE_25, area)), 6)
 }
 
 // Neither lies as a triangle: the whole parts of the two terms, and their rests over one divisor.
+#[tactic(auto, using(crate::proofs::Neither::moment_more, crate::proofs::Neither::moment_even))]
 fn neither_moment(b: u64, v: u64, g: u64) -> u64
     requires { Crosses b v g × Sizes b v g (v + g) }
     ensures { result ≡ neither_moment b v g (v + g) }
@@ -66,13 +60,14 @@ fn neither_moment(b: u64, v: u64, g: u64) -> u64
 }
 
 // The section moment of a section of this breadth, void and grain.
+#[tactic(auto, using(crate::proofs::Rows::by_uncut, crate::proofs::Rows::by_triangle, crate::proofs::Rows::by_neither))]
 pub fn section_moment(breadth: u16, void: u16, grain: u16) -> u64
     ensures { result ≡ deck_moment breadth void grain }
 {
     let b = breadth as u64;
     let v = void as u64;
     let g = grain as u64;
-    let m = choice::smaller(v, g);
+    let m = v.min(g);
     if SLOPE_25 * b <= 200000 * m {
         return uncut_moment(b);
     }

@@ -22,6 +22,7 @@ pub fn has_room(s: ItemSums, i: WeightItem) -> bool
 }
 
 // The sums with one item more, where there is room for it.
+#[tactic(auto, unfolding(crate::specs::Weights::with_item))]
 pub fn with_item(s: ItemSums, i: WeightItem) -> ItemSums
     ensures { result ≡ cond (has_room s i) (with_item s i) s }
 {
@@ -31,7 +32,7 @@ pub fn with_item(s: ItemSums, i: WeightItem) -> ItemSums
     let product = (i.tonnes as u64) * (i.height as u64);
     ItemSums {
         tonnes: s.tonnes + i.tonnes,
-        products: choice::capped_sum(s.products, product),
+        products: s.products.saturating_add(product),
     }
 }
 
@@ -43,15 +44,13 @@ pub fn makes_load(s: ItemSums) -> bool
 }
 
 // KG of the items: the summed products divided by the sum of tonnes, rounded up, with 1 for 0.
+#[tactic(auto, using(crate::proofs::Weights::kg_none, crate::proofs::Weights::kg_undivided, crate::proofs::Weights::kg_far, crate::proofs::Weights::kg_up_lem, whole::proofs::Dividing::ceil_le))]
 fn weighed_kg(s: ItemSums) -> u16
     ensures { result ≡ weighed_kg s }
 {
     let d = s.tonnes as u64;
     let n = s.products;
-    if n == 0 {
-        return 1;
-    }
-    if d == 0 {
+    if n == 0 || d == 0 {
         return 1;
     }
     if GREATEST_KG * d < n {
