@@ -10,7 +10,7 @@ use lib.ListN.{length, drop, get_or}
 use borrow.Author.Tests.{leb-true}
 use Rattle.whole.specs.Lists.{within, all, sum_of}
 use Rattle.whole.proofs.Lists.{and_true, within_true, all_at, drop_next, drop_end}
-use Rattle.record.proofs.Taken.{past_cell, past_slot, cells_length, cell_at}
+use Rattle.record.proofs.Taken.{past_cell, cells_length, cell_at}
 use Rattle.record.specs.declared.Part.{Part}
 use Rattle.record.specs.declared.Cell.{Cell}
 use Rattle.record.specs.Held.{cell_width, cells_of}
@@ -158,29 +158,29 @@ module _ (p : Part) (w : PartWithin p) (eight : length p.cells ≡ 8) (i : ℕ) 
   count_is = cells_length p fitting
 
   module _ (h : i < p.count) where
-    here : get_or (cells_of p) i past_cell ≡ (get_or p.cells i past_slot).cell
+    here : get_or (cells_of p) i past_cell ≡ get_or p.cells i past_cell
     here = cell_at p fitting i h
 
-    next : drop i (cells_of p) ≡ (get_or p.cells i past_slot).cell ∷ drop (i + 1) (cells_of p)
+    next : drop i (cells_of p) ≡ get_or p.cells i past_cell ∷ drop (i + 1) (cells_of p)
     next = drop_next (cells_of p) i past_cell (omega (arith, count_is)) ∙ ap (λ (x : Cell). x ∷ drop (i + 1) (cells_of p)) here
 
-    bounds : CellBounds (get_or p.cells i past_slot).cell
+    bounds : CellBounds (get_or p.cells i past_cell)
     bounds = cell_bounds _ (ap cell_limits (sym here) ∙ all_at cell_limits (cells_of p) i past_cell w.cells (omega (arith, count_is)))
 
-    pub part_room : SumsFit s (sizes_of (get_or p.cells i past_slot).cell)
+    pub part_room : SumsFit s (sizes_of (get_or p.cells i past_cell))
     part_room = room_next (cells_of p) i s _ w.widths bounds a (drop (i + 1) (cells_of p)) next (omega (arith, w.count))
 
-    pub part_next : i + 1 < p.count → Ahead (cells_of p) (i + 1) (inner_cell s (sizes_of (get_or p.cells i past_slot).cell))
+    pub part_next : i + 1 < p.count → Ahead (cells_of p) (i + 1) (inner_cell s (sizes_of (get_or p.cells i past_cell)))
     part_next k =
         let f = drop_next (cells_of p) (i + 1) past_cell (omega (arith, count_is)) in
-        ahead_next (cells_of p) i s _ w.widths bounds a _ _ (next ∙ ap (λ (xs : List Cell). (get_or p.cells i past_slot).cell ∷ xs) f) f
+        ahead_next (cells_of p) i s _ w.widths bounds a _ _ (next ∙ ap (λ (xs : List Cell). get_or p.cells i past_cell ∷ xs) f) f
 
     module _ (end : p.count ≤ i + 1) where
-      alone : drop i (cells_of p) ≡ (get_or p.cells i past_slot).cell ∷ []
-      alone = next ∙ ap (λ (xs : List Cell). (get_or p.cells i past_slot).cell ∷ xs) (drop_end (cells_of p) (i + 1) past_cell (omega (arith, count_is)))
+      alone : drop i (cells_of p) ≡ get_or p.cells i past_cell ∷ []
+      alone = next ∙ ap (λ (xs : List Cell). get_or p.cells i past_cell ∷ xs) (drop_end (cells_of p) (i + 1) past_cell (omega (arith, count_is)))
 
-      pub part_last : last_answer s (sizes_of (get_or p.cells i past_slot).cell) ≡ section_answer (cells_of p)
+      pub part_last : last_answer s (sizes_of (get_or p.cells i past_cell)) ≡ section_answer (cells_of p)
       part_last = last_is (cells_of p) i s _ w.widths bounds a alone
 
-      pub part_not_negative : (last_cell s (sizes_of (get_or p.cells i past_slot).cell)).first + (last_cell s (sizes_of (get_or p.cells i past_slot).cell)).old / 2 ≤ (last_cell s (sizes_of (get_or p.cells i past_slot).cell)).high
+      pub part_not_negative : (last_cell s (sizes_of (get_or p.cells i past_cell))).first + (last_cell s (sizes_of (get_or p.cells i past_cell))).old / 2 ≤ (last_cell s (sizes_of (get_or p.cells i past_cell))).high
       part_not_negative = last_not_negative (cells_of p) i s _ w.widths bounds a alone (section_not_negative (cells_of p) (cells_section p w eight))

@@ -6,6 +6,7 @@ use Prim.Native.Nat.{ℕ, ◌+◌, ◌*◌, ◌-◌, ◌^◌, ◌≤◌}
 use native.Mathlib.Omega.{arith}
 use native.Mathlib.Nat.{mul-le-mul, mul-le-mul_left, zero-mul}
 use lib.ListN.{length, length-take}
+use Rattle.std.specs.Prelude.{Some, None}
 use Rattle.whole.specs.Lists.{within, all, sum_of}
 use Rattle.whole.proofs.Lists.{Within, and_true, within_true}
 use Rattle.whole.proofs.Dividing.{ceil_zero, ceil_le}
@@ -18,7 +19,6 @@ use Rattle.record.specs.Held.{cell_width, cells_of, parts_of}
 use Rattle.limits.specs.Limits.{cell_limits, section_limits, slack_limits, part_limits, hold_limits}
 use Rattle.limits.proofs.Ranges.{slack_range}
 use Rattle.slack.proofs.Rows.{deck_le}
-use Rattle.grain.specs.declared.Shifted.TheVariants.{Moment, NoFit}
 use Rattle.grain.specs.Section.{Kept, kept_from, kept_of, high_moment, section_moment}
 use Rattle.grain.specs.Slack.{slack_moment}
 use Rattle.grain.specs.Sum.{part_section, part_moment, percentage, hold_moment, weight_moment}
@@ -88,6 +88,9 @@ hold_within h e =
     let n = within_true 1 6 h.head.count t.0 in
     record { low = n.low; count = n.high; factor = within_true 5000 40000 h.head.factor u.0; parts = u.1 }
 
+pub count_le : (h : Hold) → hold_limits h ≡ true → h.head.count ≤ 6
+count_le h e = (hold_within h e).count
+
 moments_le : (mode : Mode) (ps : List Part) → all (part_limits mode) ps ≡ true → sum_of (part_moment mode) ps ≤ length ps * 2 ^ 30
 unfolding all sum_of
 moments_le mode [] e = omega arith
@@ -119,12 +122,12 @@ weight_le h e =
     (omega (arith, hold_le h w, mul-le-mul_left (2 ^ 35) w.factor.low))
 
 -- ---- an answer taken apart
-pub moment_of_lem : (b : Bool) (x m : ℕ) → Moment m ≡ cond b (Moment x) NoFit → (b ≡ true) × (m ≡ x)
+pub moment_of_lem : (b : Bool) (x m : ℕ) → Some m ≡ cond b (Some x) None → (b ≡ true) × (m ≡ x)
 moment_of_lem true x m e = (refl, cc)
 moment_of_lem false x m e =
     let z : ◌≡◌ {A = ℕ} 0 1 = cc in absurd (omega arith)
 
-pub no_fit_of : (b : Bool) (x : ℕ) → NoFit ≡ cond b (Moment x) NoFit → b ≡ false
+pub no_fit_of : (b : Bool) (x : ℕ) → None ≡ cond b (Some x) None → b ≡ false
 no_fit_of true x e =
     let z : ◌≡◌ {A = ℕ} 0 1 = cc in absurd (omega arith)
 no_fit_of false x e = refl

@@ -1,5 +1,5 @@
 -- Document 01, the sum: parts in thousandths of m⁴, weight moments in kg·m.
-use Rattle.std.specs.Prelude.{Bool, true, cond, List, ℕ, ◌*◌}
+use Rattle.std.specs.Prelude.{Bool, true, cond, Result, Ok, Err, List, ℕ, ◌*◌}
 use Rattle.whole.specs.Divide.{ceil_div}
 use Rattle.whole.specs.Lists.{all, sum_of}
 use Rattle.record.specs.declared.Mode.{Mode}
@@ -8,8 +8,8 @@ use Rattle.record.specs.declared.Part.{Part}
 use Rattle.record.specs.declared.Hold.{Hold}
 use Rattle.record.specs.Held.{cells_of, parts_of}
 use Rattle.limits.specs.Limits.{hold_limits}
-use Rattle.grain.specs.declared.Weighed.{Weighed}
-use Rattle.grain.specs.declared.Weighed.TheVariants.{Weight, Limits, NoFit}
+use Rattle.grain.specs.declared.NotWeighed.{NotWeighed}
+use Rattle.grain.specs.declared.NotWeighed.TheVariants.{Limits, NoFit}
 use Rattle.grain.specs.Section.{section_moment, fits}
 use Rattle.grain.specs.Slack.{slack_moment}
 
@@ -52,20 +52,22 @@ unfoldable pub hold_fits : Hold → Bool
 hold_fits h = all (part_fits h.head.mode) (parts_of h)
 
 -- what a hold record answers: outside its limits (20), a void that does not fit (21), or its weight moment
-unfoldable pub weighed_of : Hold → Weighed
-weighed_of h = cond (hold_limits h) (cond (hold_fits h) (Weight (weight_moment h)) NoFit) Limits
+unfoldable pub weighed_of : Hold → Result ℕ NotWeighed
+weighed_of h = cond (hold_limits h) (cond (hold_fits h) (Ok (weight_moment h)) (Err NoFit)) (Err Limits)
 
 -- the paper's code for each answer
-abbrev pub weighed_code : Weighed → ℕ
-weighed_code (Weight w) = 0
-weighed_code Limits = 20
-weighed_code NoFit = 21
+abbrev pub not_weighed_code : NotWeighed → ℕ
+not_weighed_code Limits = 20
+not_weighed_code NoFit = 21
+
+abbrev pub weighed_code : Result ℕ NotWeighed → ℕ
+weighed_code (Ok w) = 0
+weighed_code (Err why) = not_weighed_code why
 
 -- the weight moment that an answer gives: 0 where a hold is outside its limits, as one without parts is, or does not fit
-abbrev pub weighed_moment : Weighed → ℕ
-weighed_moment (Weight w) = w
-weighed_moment Limits = 0
-weighed_moment NoFit = 0
+abbrev pub weighed_moment : Result ℕ NotWeighed → ℕ
+weighed_moment (Ok w) = w
+weighed_moment (Err why) = 0
 
 -- the weight moments of all holds together; a place that holds no parts counts 0 (`nothing_weighs`: 0 over any SF is 0, over the
 -- filler's 0 too)

@@ -1,6 +1,6 @@
 -- How the program adds a section up, cell by cell: sums so far, and what each cell adds. (The paper's definitions are those of
 -- Section.antt; the laws in proofs/Walks.antt lead from these sums to them.)
-use Rattle.std.specs.Prelude.{cond, List, ℕ, ◌+◌, ◌*◌, ◌-◌, ◌/◌, min, ◌≤◌, ◌^◌, leb}
+use Rattle.std.specs.Prelude.{cond, Option, Some, None, List, ℕ, ◌+◌, ◌*◌, ◌-◌, ◌/◌, min, ◌≤◌, ◌^◌, leb}
 use Rattle.record.specs.declared.Cell.{Cell}
 use Rattle.whole.specs.Lists.{sum_of}
 use Rattle.record.specs.declared.Mode.{Mode}
@@ -9,8 +9,6 @@ use Rattle.record.specs.declared.Hold.{Hold}
 use Rattle.record.specs.Held.{parts_of}
 use Rattle.cells.specs.declared.CellSizes.{CellSizes}
 use Rattle.grain.specs.declared.Sums.{Sums}
-use Rattle.grain.specs.declared.Shifted.{Shifted}
-use Rattle.grain.specs.declared.Shifted.TheVariants.{Moment, NoFit}
 use Rattle.grain.specs.Section.{kept, first_moment, fits, section_moment}
 use Rattle.grain.specs.Sum.{part_fits, part_section, part_moment, hold_fits}
 
@@ -37,12 +35,12 @@ abbrev pub moment_of : Sums → ℕ
 moment_of s = s.high - s.first - s.old / 2
 
 -- the answer at the last cell
-unfoldable pub last_answer : Sums → CellSizes → Shifted
-last_answer s z = cond (leb (z.area + s.excess) z.most) (Moment (moment_of (last_cell s z))) NoFit
+unfoldable pub last_answer : Sums → CellSizes → Option ℕ
+last_answer s z = cond (leb (z.area + s.excess) z.most) (Some (moment_of (last_cell s z))) None
 
--- the answer of a section: its moment, or that its void does not fit
-unfoldable pub section_answer : List Cell → Shifted
-section_answer cs = cond (fits cs) (Moment (section_moment cs)) NoFit
+-- the answer of a section: its moment, or none where its void does not fit
+unfoldable pub section_answer : List Cell → Option ℕ
+section_answer cs = cond (fits cs) (Some (section_moment cs)) None
 
 -- no sums yet
 abbrev pub no_sums : Sums
@@ -57,11 +55,11 @@ pub record SumsFit (s : Sums) (z : CellSizes) : Type 0 where
   pub old : s.old ≤ 2 ^ 60
 
 -- the answer of a part, in mm³ and in thousandths of m⁴, and of all parts of a hold
-unfoldable pub part_section_answer : Mode → Part → Shifted
-part_section_answer mode p = cond (part_fits mode p) (Moment (part_section mode p)) NoFit
+unfoldable pub part_section_answer : Mode → Part → Option ℕ
+part_section_answer mode p = cond (part_fits mode p) (Some (part_section mode p)) None
 
-unfoldable pub part_answer : Mode → Part → Shifted
-part_answer mode p = cond (part_fits mode p) (Moment (part_moment mode p)) NoFit
+unfoldable pub part_answer : Mode → Part → Option ℕ
+part_answer mode p = cond (part_fits mode p) (Some (part_moment mode p)) None
 
-unfoldable pub parts_answer : Hold → Shifted
-parts_answer h = cond (hold_fits h) (Moment (sum_of (part_moment h.head.mode) (parts_of h))) NoFit
+unfoldable pub parts_answer : Hold → Option ℕ
+parts_answer h = cond (hold_fits h) (Some (sum_of (part_moment h.head.mode) (parts_of h))) None
