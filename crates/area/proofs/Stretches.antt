@@ -73,6 +73,16 @@ module _ (u k : ℕ) where
   pub counted_part : u < angle (suc k) → counted u k ≡ u - angle k
   counted_part h = omega arith
 
+-- the stretch behind the k-th angle, of width h, where all of it or the first t counts
+module _ (ds : List ℤ) (u k h : ℕ) (e : h ≡ width k) where
+  pub stretch_whole : angle (k + 1) ≤ u → part_area h h (get_or ds k (pos 0)) (get_or ds (k + 1) (pos 0)) ≡ stretch_area (plus_at ds) (minus_at ds) u k
+  stretch_whole l =
+      let m : angle (suc k) ≤ u = rw (add-one k) at l in rw (e, add-one k, counted_whole u k m) refl
+
+  pub stretch_part : (t : ℕ) → t ≡ u - angle k → u < angle (k + 1) → part_area h t (get_or ds k (pos 0)) (get_or ds (k + 1) (pos 0)) ≡ stretch_area (plus_at ds) (minus_at ds) u k
+  stretch_part t f l =
+      let m : u < angle (suc k) = rw (add-one k) at l in rw (e, f, add-one k, counted_part u k m) refl
+
 -- ---- the area is at most the two heights together
 area_le : (t s u n : ℕ) → t ≤ s → 0 < s → area_above t s u n ≤ u
 area_le t s u n l p = div-le_of_le-mul (2 * s * (u + n)) (omega (arith, mul-le-mul_left (u * u) l))

@@ -9,16 +9,18 @@ ghost use Rattle.area.specs.Area.{area_above, ends_above, stretch_area, area};
 ghost use Rattle.area.specs.Walk.{EndsFit, EndBounds, part_area};
 
 // How far the two ends of the first t of h lie above zero, together, at h times their size.
+#[tactic(auto, using(whole::proofs::Lines::line_le))]
 fn ends_above(h: u64, t: u64, p1: u64, m1: u64, p2: u64, m2: u64) -> u64
     requires { EndsFit h t p1 m1 p2 m2 }
     ensures value { result ≡ ends_above h t p1 m1 p2 m2 }
     ensures upper_bound { result ≤ h * p1 + on_line h t p1 p2 }
 {
-    let start = choice::beyond(h * p1, h * m1);
-    start + choice::beyond(whole::on_line(h, t, p1, p2), whole::on_line(h, t, m1, m2))
+    let start = (h * p1).saturating_sub(h * m1);
+    start + whole::on_line(h, t, p1, p2).saturating_sub(whole::on_line(h, t, m1, m2))
 }
 
 // The area above zero under a line over t: the general case is the one that needs a long division.
+#[tactic(auto, using(crate::proofs::Stretches::nothing_above, crate::proofs::Stretches::all_above))]
 fn area_above(t: u64, s: u64, u: u64, n: u64) -> u64
     requires { (t ≤ 500) × (0 < s) × (s ≤ 500) × (u ≤ 2 ^ 37) × (n ≤ 2 ^ 45) }
     ensures { result ≡ area_above t s u n }
@@ -44,9 +46,11 @@ fn whole_area(h: u64, u: u64, n: u64) -> u64
 }
 
 // The part t of a stretch of width h.
+#[tactic(auto, using(whole::proofs::Lines::line_le, crate::proofs::Stretches::part_le))]
 fn part_area(h: u64, t: u64, d: i64, e: i64) -> u64
     requires { (t ≤ h) × (0 < h) × (h ≤ 500) × EndBounds d × EndBounds e }
-    ensures { result ≡ part_area h t d e }
+    ensures value { result ≡ part_area h t d e }
+    ensures upper_bound { result ≤ 2 ^ 36 }
 {
     let p1 = sign::above_zero(d);
     let m1 = sign::below_zero(d);
@@ -58,9 +62,11 @@ fn part_area(h: u64, t: u64, d: i64, e: i64) -> u64
 }
 
 // The whole of a stretch of width h.
+#[tactic(auto, using(crate::proofs::Stretches::whole_is, crate::proofs::Stretches::part_le))]
 fn full_area(h: u64, d: i64, e: i64) -> u64
     requires { (0 < h) × (h ≤ 500) × EndBounds d × EndBounds e }
-    ensures { result ≡ part_area h h d e }
+    ensures value { result ≡ part_area h h d e }
+    ensures upper_bound { result ≤ 2 ^ 36 }
 {
     let u = sign::above_zero(d) + sign::above_zero(e);
     let n = sign::below_zero(d) + sign::below_zero(e);
@@ -68,6 +74,7 @@ fn full_area(h: u64, d: i64, e: i64) -> u64
 }
 
 // The stretch behind the k-th angle, up to UPPER.
+#[tactic(auto, using(crate::proofs::Stretches::width_between, crate::proofs::Stretches::both_bounds, crate::proofs::Stretches::nothing_counted, crate::proofs::Stretches::counted_none, crate::proofs::Stretches::stretch_whole, crate::proofs::Stretches::stretch_part, arms::proofs::Tens::angle_rises, arms::proofs::Tens::width_some, arms::proofs::Tens::width_le))]
 fn stretch_area(ds: [i64; 10], upper: u64, k: usize) -> u64
     requires { Bounded ds × (k < 9) }
     ensures value { result ≡ stretch_area (plus_at ds) (minus_at ds) upper k }
@@ -78,24 +85,21 @@ fn stretch_area(ds: [i64; 10], upper: u64, k: usize) -> u64
         return 0;
     }
     let to = arms::angle_at(k + 1);
-    let d = ds[k];
-    let e = ds[k + 1];
     if to <= upper {
-        return full_area(to - from, d, e);
+        return full_area(to - from, ds[k], ds[k + 1]);
     }
-    part_area(to - from, upper - from, d, e)
+    part_area(to - from, upper - from, ds[k], ds[k + 1])
 }
 
 // AREA from 0 to UPPER.
+#[tactic(auto, using(crate::proofs::Stretches::area_none, crate::proofs::Stretches::area_more))]
 pub fn area_to(ds: [i64; 10], upper: u64) -> u64
     requires { Bounded ds }
     ensures { result ≡ area ds upper }
 {
     let mut total: u64 = 0;
-    let mut k: usize = 0;
-    while k < 9 {
+    for k in 0..9 {
         total += stretch_area(ds, upper, k);
-        k += 1;
     }
     total
 }
