@@ -11,7 +11,6 @@ use lib.ListN.{length, get_or}
 use lib.Signed.{lt_z}
 use lib.IntN.{ℤ, pos, negsuc}
 use borrow.Author.Tests.{le-ltb}
-use borrow.Author.Count.{below_more}
 use Rattle.sign.specs.Sign.{AtMost, Under}
 use Rattle.sign.proofs.Signs.{lt_under, nlt_most}
 use Rattle.whole.proofs.Lists.{get_d_any}
@@ -72,30 +71,9 @@ peak_is [] h = absurd (omega arith)
 peak_is (d ∷ []) h = alone d
 peak_is (d ∷ e ∷ ds) h = in_front d (e ∷ ds) (peak (e ∷ ds)) (peak_is (e ∷ ds) (omega arith))
 
--- ---- a search from the first on
-module _ (ds : List ℤ) where
-  pub peak_start : Peak ds 1 0
-  peak_start = record { within = omega arith; greatest = λ k h. only k h; least = λ k h. absurd (omega arith) }
-    where
-      only : (k : ℕ) → k < 1 → AtMost (get_or ds k (pos 0)) (get_or ds 0 (pos 0))
-      only zero h = omega arith
-      only (suc k) h = absurd (omega arith)
-
-  pub peak_keep : (n r : ℕ) → Peak ds n r → AtMost (get_or ds n (pos 0)) (get_or ds r (pos 0)) → Peak ds (n + 1) r
-  peak_keep n r p h =
-      record {
-        within = omega (arith, p.within);
-        greatest = below_more (λ k. AtMost (get_or ds k (pos 0)) (get_or ds r (pos 0))) n p.greatest h;
-        least = p.least;
-      }
-
-  pub peak_move : (n r : ℕ) → Peak ds n r → Under (get_or ds r (pos 0)) (get_or ds n (pos 0)) → Peak ds (n + 1) n
-  peak_move n r p h =
-      record {
-        within = omega arith;
-        greatest = below_more (λ k. AtMost (get_or ds k (pos 0)) (get_or ds n (pos 0))) n (λ k l. omega (arith, p.greatest k l)) (omega arith);
-        least = λ k l. omega (arith, p.greatest k l);
-      }
+-- a place that is the peak of all
+pub peak_found : (ds : List ℤ) (n r : ℕ) → Peak ds n r → length ds ≡ n → 0 < n → r ≡ peak ds
+peak_found ds n r p e h = peak_unique ds n r (peak ds) p (rw e at (peak_is ds (omega arith)))
 
 -- ---- the tests of 42 at the ten angles, one after the other
 module _ (heel up : ℕ) (ds : List ℤ) where

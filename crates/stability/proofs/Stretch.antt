@@ -1,7 +1,8 @@
 -- Laws of the stretch in which an angle lies.
 use mathlib.Core.Path.{◌≡◌, refl}
 use mathlib.Core.Bool.{cond}
-use Prim.Native.Nat.{ℕ, zero, suc, ◌-◌, ◌≤◌, ◌<◌}
+use Prim.Native.Nat.{ℕ, zero, suc, ◌+◌, ◌≤◌, ◌<◌}
+use native.Mathlib.Numerals.{add-one}
 use native.Mathlib.Omega.{arith}
 use native.Mathlib.Nat.{lt_of_not-le, le_of_lt}
 use native.Mathlib.Decide.{dec_le}
@@ -23,19 +24,16 @@ below_last (suc n) x h k = go (λ f. below_last n x (omega arith) f) (dec_le x (
 pub stretch_is : StretchRule
 stretch_is x h = below_last 8 x (omega arith) (omega (arith, angle_nine))
 
--- the search for a stretch, from the last on down
-pub below_found : (n x : ℕ) → 0 < n → angle n < x → n ≡ angles_below n x
+-- the search for a stretch, from the first angle on
+pub below_first : (x : ℕ) → angles_below 0 x ≡ 0
 unfolding angles_below
-below_found zero x p h = absurd (omega arith)
-below_found (suc n) x p h = rw (lt-ltb (angle (suc n)) x h) refl
+below_first x = refl
 
-pub below_next : (n x : ℕ) → 0 < n → x ≤ angle n → angles_below n x ≡ angles_below (n - 1) x
-unfolding angles_below
-below_next zero x p h = absurd (omega arith)
-below_next (suc n) x p h =
-    let e : suc n - 1 ≡ n = omega arith in
-    rw (le-ltb (angle (suc n)) x h, e) refl
+module _ (n x : ℕ) where
+  pub below_found : angle (n + 1) < x → angles_below (n + 1) x ≡ n + 1
+  unfolding angles_below
+  below_found h = rw (add-one n) (rw (lt-ltb (angle (suc n)) x (rw (add-one n) at h)) refl)
 
-pub below_none : (n x : ℕ) → n ≡ 0 → 0 ≡ angles_below n x
-unfolding angles_below
-below_none n x e = rw e refl
+  pub below_not : x ≤ angle (n + 1) → angles_below (n + 1) x ≡ angles_below n x
+  unfolding angles_below
+  below_not h = rw (add-one n) (rw (le-ltb (angle (suc n)) x (rw (add-one n) at h)) refl)

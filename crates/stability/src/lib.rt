@@ -11,7 +11,7 @@ use arms::Basis;
 use record::{Rule, Ship};
 
 // What the verdict says: passed, or the first test that fails.
-#[derive(Clone, Copy)]
+#[derive(Clone, Copy, Debug, PartialEq, Eq)]
 pub enum Judgement {
     Passed,
     ShortOfGm,
@@ -37,30 +37,29 @@ const LEAST_GM: i64 = 300000;
 
 const LEAST_AREA: u64 = 429718347;
 
-// The stretch in which the angle x lies.
+// The stretch in which the angle x lies: it begins at the last of the ten angles below x.
+#[tactic(auto, using(crate::proofs::Stretch::below_first, crate::proofs::Stretch::below_found, crate::proofs::Stretch::below_not))]
 fn stretch_of(x: u64) -> usize
     ensures { result ≡ stretch_of x }
 {
-    let mut n: usize = 8;
-    while 0 < n {
-        if arms::angle_at(n) < x {
-            return n;
+    let mut stretch: usize = 0;
+    for k in 0..8 {
+        if arms::angle_at(k + 1) < x {
+            stretch = k + 1;
         }
-        n -= 1;
     }
-    0
+    stretch
 }
 
 // DIFF at the angle x, rounded down.
+#[tactic(auto, unfolding(crate::specs::Verdict::diff_at), using(crate::proofs::Stretch::stretch_is, arms::proofs::Tens::angle_rises, arms::proofs::Tens::width_some, arms::proofs::Tens::width_le))]
 fn diff_at(ds: [i64; 10], x: u64) -> i64
     requires { Bounded ds × (x ≤ 4000) }
     ensures { result ≡ diff_at ds x }
 {
     let i = stretch_of(x);
     let from = arms::angle_at(i);
-    let d = ds[i];
-    let e = ds[i + 1];
-    whole::line_at(arms::angle_at(i + 1) - from, x - from, d, e)
+    whole::line_at(arms::angle_at(i + 1) - from, x - from, ds[i], ds[i + 1])
 }
 
 // The least place at which ds is greatest.
@@ -68,14 +67,10 @@ fn peak_of(ds: [i64; 10]) -> usize
     ensures { result ≡ peak ds }
 {
     let mut best: usize = 0;
-    let mut i: usize = 1;
-    while i < 10 {
-        let a = ds[best];
-        let b = ds[i];
-        if a < b {
+    for i in 1..10 {
+        if ds[best] < ds[i] {
             best = i;
         }
-        i += 1;
     }
     best
 }
@@ -86,26 +81,18 @@ fn fails_at(heel: u64, upper: u64, d: i64, k: usize) -> bool
     ensures { result ≡ (ltb heel (angle k) && leb (angle k) upper && is_below d) }
 {
     let a = arms::angle_at(k);
-    if a <= heel {
-        return false;
-    }
-    if upper < a {
-        return false;
-    }
-    sign::is_below(d)
+    heel < a && a <= upper && sign::is_below(d)
 }
 
 // Whether DIFF is below zero at one of the ten angles above the heel limit and not above UPPER.
+#[tactic(auto, using(crate::proofs::Peaks::among_none, crate::proofs::Peaks::among_found, crate::proofs::Peaks::among_more))]
 fn fails_among(heel: u64, upper: u64, ds: [i64; 10]) -> bool
     ensures { result ≡ fails_among heel upper ds 10 }
 {
-    let mut k: usize = 0;
-    while k < 10 {
-        let d = ds[k];
-        if fails_at(heel, upper, d, k) {
+    for k in 0..10 {
+        if fails_at(heel, upper, ds[k], k) {
             return true;
         }
-        k += 1;
     }
     false
 }
@@ -114,9 +101,8 @@ fn heel_limit(s: Ship) -> u64
     ensures value { result ≡ heel_limit s }
     ensures upper_bound { result ≤ 1200 }
 {
-    let rule = s.rule;
-    match rule {
-        Rule::New(edge) => choice::smaller(GREATEST_HEEL, edge as u64),
+    match s.rule {
+        Rule::New(edge) => GREATEST_HEEL.min(edge as u64),
         Rule::Old(_) => GREATEST_HEEL,
     }
 }
@@ -126,16 +112,11 @@ fn fails_beyond(heel: u64, upper: u64, ds: [i64; 10]) -> bool
     requires { Bounded ds × (upper ≤ 4000) }
     ensures { result ≡ fails_beyond heel upper ds }
 {
-    if fails_among(heel, upper, ds) {
-        return true;
-    }
-    if upper <= heel {
-        return false;
-    }
-    sign::is_below(diff_at(ds, upper))
+    fails_among(heel, upper, ds) || heel < upper && sign::is_below(diff_at(ds, upper))
 }
 
 // The first test that fails.
+#[tactic(auto, unfolding(crate::specs::Verdict::judged_by))]
 fn judgement_of(gm: i64, diff: i64, beyond: bool, area: u64) -> Judgement
     ensures { result ≡ judged_by gm diff beyond area }
 {
@@ -155,11 +136,12 @@ fn judgement_of(gm: i64, diff: i64, beyond: bool, area: u64) -> Judgement
 }
 
 // The verdict on ten DIFFs.
+#[tactic(auto, using(crate::proofs::Peaks::peak_is, arms::proofs::Tens::angle_le))]
 fn verdict_from(heel: u64, flood: u64, gm: i64, ds: [i64; 10]) -> Verdict
     requires { Bounded ds × (heel ≤ 1200) }
     ensures { result ≡ verdict_from heel (upper flood ds) gm ds }
 {
-    let upper = choice::smaller(flood, arms::angle_at(peak_of(ds)));
+    let upper = flood.min(arms::angle_at(peak_of(ds)));
     let diff = diff_at(ds, heel);
     let area = area::area_to(ds, upper);
     let judgement = judgement_of(gm, diff, fails_beyond(heel, upper, ds), area);
@@ -173,6 +155,7 @@ fn verdict_from(heel: u64, flood: u64, gm: i64, ds: [i64; 10]) -> Verdict
 }
 
 // The verdict on a ship, from two columns around D, a load and a weight moment within their limits.
+#[tactic(auto, unfolding(crate::specs::Verdict::verdict_of))]
 pub fn judge(s: Ship, b: Basis) -> Verdict
     requires { Judgeable b }
     ensures { result ≡ verdict_of s b }

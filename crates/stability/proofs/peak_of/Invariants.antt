@@ -1,12 +1,8 @@
 -- `peak_of`: the least place at which ds is greatest.
 use mathlib.Core.Path.{◌≡◌}
-use Prim.Native.Nat.{◌-◌, ◌≤◌}
 use lib.ListN.{length}
 use Rattle.stability.specs.Verdict.{Peak}
 use Rattle.stability.proofs.peak_of.Given as goal
 
 abbrev pub invariant-loop-i : goal.invariant-loop-i
-invariant-loop-i l = (length l.ds ≡ 10) × (l.i ≤ 10) × Peak l.ds l.i l.best
-
-abbrev pub decreases-loop-i : goal.decreases-loop-i
-decreases-loop-i l = 10 - l.i
+invariant-loop-i l = (length l.ds ≡ 10) × Peak l.ds l.i l.best
