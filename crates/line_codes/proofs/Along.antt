@@ -10,23 +10,13 @@ use Rattle.text.specs.Token.{allowed, in_run, Token, opened, closed, run, starts
 use Rattle.text.proofs.Parts.{tokens_opening, tokens_closing, tokens_space, tokens_last, tokens_more}
 use Rattle.text.proofs.Runs.{run_token}
 use Rattle.text.proofs.Sorts.{not_in_run}
-use Rattle.line_codes.specs.Line.{Stand, before, inside, behind, wrong, further, walked, one_form}
+use Rattle.line_codes.specs.Line.{Stand, before, inside, behind, wrong, further, walked, deepest, is_behind, one_form}
+use Rattle.line_codes.specs.Parts.{over_run, over_token}
 use Rattle.line_codes.specs.Codes.{Allowed, opening, closing, space, of_run}
 use Rattle.line_codes.proofs.Bytes.{in_run_lem, may_stand}
 use Rattle.line_codes.proofs.Walks.{over_space, over_other, over_any, over_plain}
 
--- over a run; over a token; along tokens
-abbrev pub over_run : Stand → Stand
-over_run before = wrong
-over_run (inside n) = inside n
-over_run behind = wrong
-over_run wrong = wrong
-
-abbrev pub over_token : (most : ℕ) → Stand → Token → Stand
-over_token most p opened = further most p 40
-over_token most p closed = further most p 41
-over_token most p (run r) = over_run p
-
+-- along tokens
 unfoldable pub along : (most : ℕ) → Stand → List Token → Stand
 along most p [] = p
 along most p (t ∷ ts) = along most (over_token most p t) ts
@@ -72,3 +62,29 @@ module _ (most : ℕ) where
 
   pub form_alike : (a b : List ℕ) → all allowed a ≡ true → all allowed b ≡ true → tokens a ≡ tokens b → one_form most a ≡ one_form most b
   form_alike a b e f g = rw (walk_tokens a e before, walk_tokens b f before, g)
+
+-- a walk that went wrong stays wrong
+along_wrong : (most : ℕ) (ts : List Token) → along most wrong ts ≡ wrong
+unfolding along
+along_wrong most [] = refl
+along_wrong most (opened ∷ ts) = along_wrong most ts
+along_wrong most (closed ∷ ts) = along_wrong most ts
+along_wrong most (run r ∷ ts) = along_wrong most ts
+
+-- ---- what the walk along a line of allowed bytes finds: it has come to p, and ts is what is left
+module _ (s : List ℕ) (ok : all allowed s ≡ true) (most : ℕ) (limit : most ≡ deepest (tokens s)) (p : Stand) (ts : List Token) (come : along most p ts ≡ along most before (tokens s)) where
+  form_by : one_form (deepest (tokens s)) s ≡ is_behind (along most p ts)
+  form_by = rw (← limit, walk_tokens most s ok before, come)
+
+  pub form_end : ts ≡ [] → one_form (deepest (tokens s)) s ≡ is_behind p
+  unfolding along
+  form_end e = form_by ∙ rw e
+
+  module _ (t : Token) (us : List Token) (next : ts ≡ t ∷ us) {q : Stand} (over : over_token most p t ≡ q) where
+    pub form_on : along most q us ≡ along most before (tokens s)
+    unfolding along
+    form_on = rw (← over, ← come, next)
+
+  pub form_wrong : (t : Token) (us : List Token) → ts ≡ t ∷ us → over_token most p t ≡ wrong → one_form (deepest (tokens s)) s ≡ false
+  unfolding along
+  form_wrong t us next over = form_by ∙ rw (next, over, along_wrong most us)

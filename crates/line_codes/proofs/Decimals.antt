@@ -10,7 +10,7 @@ use lib.ListN.{length, get_or, length-append, get_or-append}
 use borrow.Author.Tests.{eqb-false, le-leb, leb-true, not-true}
 use Rattle.whole.specs.Lists.{all}
 use Rattle.whole.proofs.Lists.{and_true, within_true, within_by, all_append}
-use Rattle.text.specs.declared.Number.TheVariants.{Is, Bad}
+use Rattle.std.specs.Prelude.{Some, None}
 use Rattle.text.specs.Token.{is_digit, value_from, value, needless_zero, is_number, number_of}
 use Rattle.line_codes.specs.Codes.{NumberIs}
 use Rattle.whole.specs.Decimal.{Decimal, one, more}
@@ -90,13 +90,13 @@ number_decimal (b ∷ s) e =
     (leb-true (value (b ∷ s)) 999999999 q.1, written b s d.0 d.1)
 
 -- ---- the number that is read of a run is the one that it says
-number_by : (r : List ℕ) (n : ℕ) (x : Bool) → is_number r ≡ x → cond x (Is (value r)) Bad ≡ Is n → NumberIs n r
+number_by : (r : List ℕ) (n : ℕ) (x : Bool) → is_number r ≡ x → cond x (Some (value r)) None ≡ Some n → NumberIs n r
 number_by r n true e f =
     let v : value r ≡ n = cc in
     let d = number_decimal r e in
     (rw v at d.0, rw v at d.1)
 number_by r n false e f = let z : ◌≡◌ {A = ℕ} 0 1 = cc in absurd (omega arith)
 
-pub number_is : (r : List ℕ) (n : ℕ) → (number_of r ≡ Is n) ↔ NumberIs n r
+pub number_is : (r : List ℕ) (n : ℕ) → (number_of r ≡ Some n) ↔ NumberIs n r
 unfolding number_of
 number_is r n = (λ e. number_by r n (is_number r) refl e, λ (h, t). rw (decimal_number n r h t, (says t).valued))

@@ -1,6 +1,6 @@
 -- The tests 10 to 13 in their order.
-use mathlib.Core.Path.{◌≡◌, refl, sym, ◌∙◌}
-use mathlib.Core.Bool.{Bool, true, false}
+use mathlib.Core.Path.{◌≡◌, sym, ◌∙◌}
+use mathlib.Core.Bool.{true, false}
 use mathlib.Core.List.{List}
 use Prim.Native.Nat.{ℕ, ◌≤◌, ◌<◌}
 use native.Mathlib.Omega.{arith}
@@ -9,21 +9,8 @@ use lib.Seq.{length-take-le}
 use borrow.Author.Tests.{lt-ltb, le-ltb}
 use Rattle.whole.specs.Lists.{all}
 use Rattle.line_codes.specs.declared.Reading.TheVariants.{Sound, TooLong, BadByte, NotOneForm, BadNumber}
-use Rattle.line_codes.specs.declared.Test.{Test}
-use Rattle.line_codes.specs.declared.Test.TheVariants.{Passed, Failed}
 use Rattle.text.specs.Token.{allowed, tokens}
-use Rattle.line_codes.specs.Line.{tested, deepest, one_form, sound_token, reading_of}
-
--- what the end of a test says
-pub passed : {x : Bool} {r : Test} → r ≡ tested x → r ≡ Passed → x ≡ true
-passed {x = true} e f = refl
-passed {x = false} e f =
-    let z : ◌≡◌ {A = ℕ} 0 1 = cc in absurd (omega arith)
-
-pub failed : {x : Bool} {r : Test} → r ≡ tested x → r ≡ Failed → x ≡ false
-failed {x = true} e f =
-    let z : ◌≡◌ {A = ℕ} 0 1 = cc in absurd (omega arith)
-failed {x = false} e f = refl
+use Rattle.line_codes.specs.Line.{deepest, one_form, sound_token, reading_of}
 
 module _ (s : List ℕ) where
   pub too_long : 2000 < length s → reading_of s ≡ TooLong

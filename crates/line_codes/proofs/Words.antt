@@ -11,33 +11,37 @@ use Rattle.whole.specs.Lists.{all}
 use Rattle.whole.proofs.Lists.{and_false, within_true, within_by, all_append, all_at}
 use Rattle.text.specs.Token.{run, is_digit, in_run, starts_run, tokens, is_number}
 use Rattle.line_codes.specs.Line.{number_if_digit, sound_token}
-use Rattle.text.specs.Token.{prefix, run_length}
+use Rattle.text.specs.Token.{run_length}
 use Rattle.line_codes.specs.Codes.{LetterOrDigit, NumberIs, Run, NoNumber}
 use Rattle.text.proofs.Runs.{run_token}
 use Rattle.text.proofs.Parts.{ends, tokens_append}
 use Rattle.line_codes.proofs.Bytes.{in_run_lem, of_run_lem, no_run}
 use Rattle.line_codes.proofs.Sounds.{sound, one_other, sound_front}
-use Rattle.text.proofs.Scans.{prefix_on, prefix_le, prefix_all}
+use Rattle.std.proofs.lemmas.List.Sums.{prefix_len-le-length}
+use Rattle.text.proofs.Fronts.{prefix_all}
 use Rattle.line_codes.proofs.Decimals.{decimal_number, number_decimal}
 
 -- ---- the run in front of a list
 pub run_stop : (l : List ℕ) → starts_run (drop (run_length l) l) ≡ false
-unfolding prefix
 run_stop [] = refl
 run_stop (b ∷ s) = by (in_run b) refl (run_stop s)
   where
-    by : (x : Bool) → in_run b ≡ x → starts_run (drop (run_length s) s) ≡ false → starts_run (drop (cond x (suc (run_length s)) 0) (b ∷ s)) ≡ false
-    by true e f = f
+    by : (x : Bool) → in_run b ≡ x → starts_run (drop (run_length s) s) ≡ false → starts_run (drop (cond x (1 + run_length s) 0) (b ∷ s)) ≡ false
+    by true e f = let k : 1 + run_length s ≡ suc (run_length s) = omega arith in rw k f
     by false e f = e
 
 run_whole : (l : List ℕ) → ((i : ℕ) → i < length l → LetterOrDigit (get_or l i 0)) → run_length l ≡ length l
-unfolding prefix
 run_whole [] f = refl
-run_whole (b ∷ s) f = rw (in_run_lem (f 0 (omega arith))) (ap suc (run_whole s (λ i h. f (suc i) (omega arith))))
+run_whole (b ∷ s) f =
+    let n = run_whole s (λ i h. f (suc i) (omega arith)) in
+    rw (in_run_lem (f 0 (omega arith))) (omega arith)
 
 pub stops : (l : List ℕ) → starts_run l ≡ false → 0 < length l → LetterOrDigit (get_or l 0 0) → ⊥
 stops [] e h w = omega arith
 stops (b ∷ s) e h w = no_run b e w
+
+run_some : (b : ℕ) (s : List ℕ) → in_run b ≡ true → run_length (b ∷ s) ≡ suc (run_length s)
+run_some b s e = rw e (omega arith)
 
 -- ---- a run further on in the line
 record Bad (s : List ℕ) : Type 0 where
@@ -82,7 +86,7 @@ here l p e =
         before = [];
         behind = drop (run_length l) l;
         line = sym (take-append-drop (run_length l) l);
-        some = omega (arith, length-take-le (run_length l) l (prefix_le in_run l));
+        some = omega (arith, length-take-le (run_length l) l (prefix_len-le-length in_run l));
         every = λ i h. of_run_lem (get_or (take (run_length l) l) i 0) (all_at in_run (take (run_length l) l) i 0 (prefix_all in_run l) h);
         none_before = λ h w. omega arith;
         none_behind = stops (drop (run_length l) l) (run_stop l);
@@ -116,9 +120,9 @@ no_tokens e = let z : ◌≡◌ {A = ℕ} 0 1 = cc in omega arith
 
 module _ (k : ℕ) (more : (s : List ℕ) → length s ≤ k → sound s ≡ false → Bad s) where
   behind_first : (b : ℕ) (s : List ℕ) → length s ≤ k → in_run b ≡ true → (y : Bool) → number_if_digit (take (run_length (b ∷ s)) (b ∷ s)) ≡ y → (y && sound (drop (run_length (b ∷ s)) (b ∷ s))) ≡ false → Bad (b ∷ s)
-  behind_first b s h p false g q = here (b ∷ s) (omega (arith, prefix_on in_run b s p)) g
+  behind_first b s h p false g q = here (b ∷ s) (omega (arith, run_some b s p)) g
   behind_first b s h p true g q =
-      behind_run (b ∷ s) (more (drop (run_length (b ∷ s)) (b ∷ s)) (omega (arith, prefix_on in_run b s p, length-drop (run_length (b ∷ s)) (b ∷ s))) q)
+      behind_run (b ∷ s) (more (drop (run_length (b ∷ s)) (b ∷ s)) (omega (arith, run_some b s p, length-drop (run_length (b ∷ s)) (b ∷ s))) q)
 
   found_next : (s : List ℕ) → length s ≤ suc k → sound s ≡ false → Bad s
   found_next [] h e = absurd (no_tokens e)

@@ -1,3 +1,4 @@
 pub mod Line
 pub mod Codes
 pub mod Alike
+pub mod Parts

@@ -4,14 +4,7 @@ use Rattle.whole.specs.Bytes.{bytes}
 use Rattle.whole.specs.Lists.{all}
 use Rattle.line_codes.specs.declared.Reading.{Reading}
 use Rattle.line_codes.specs.declared.Reading.TheVariants.{Sound, TooLong, BadByte, NotOneForm, BadNumber}
-use Rattle.line_codes.specs.declared.Test.{Test}
-use Rattle.line_codes.specs.declared.Test.TheVariants.{Passed, Failed}
 use Rattle.text.specs.Token.{space, opening, closing, is_digit, allowed, Token, opened, closed, run, tokens, same, is_number}
-
--- how a test of a whole line ends
-abbrev pub tested : Bool → Test
-tested true = Passed
-tested false = Failed
 
 -- 12: where one stands on a walk along a line: before its form, inside it with this many brackets open, behind it; or the line
 -- is not one form

@@ -1,13 +1,16 @@
 // The tests of a whole line: codes 10 to 13.
 #![tactic(auto)]
 
-ghost use Rattle.std.specs.Prelude.{◌≡◌, cond, ◌∷◌, ◌-◌, ◌≤◌, leb, length, drop};
+ghost use Rattle.std.specs.Prelude.{◌≡◌, true, cond, ◌-◌, leb};
+ghost use Rattle.std.specs.List.{list_all};
 ghost use Rattle.whole.specs.Lists.{all};
-ghost use Rattle.text.specs.Token.{allowed, opened, tokens};
+ghost use Rattle.text.specs.Token.{allowed, tokens};
+ghost use Rattle.text.specs.Front.{said};
 ghost use Rattle.line_codes.specs.declared.Part.TheVariants.{Inside, Behind};
-ghost use Rattle.line_codes.specs.Line.{tested, deepest, one_form, number_if_digit, sound_token, reading_of, reading_code};
+ghost use Rattle.line_codes.specs.Line.{deepest, one_form, number_if_digit, sound_token, reading_of, reading_code};
+ghost use Rattle.line_codes.specs.Parts.{PartIs};
 
-use text::{BRACKET, Next, Number, OTHER, RUN, SPACE};
+use text::Piece;
 
 // How long a line may be, in bytes; how deep its form may be nested, and behind the word `show`.
 const LONGEST: usize = 2000;
@@ -26,13 +29,6 @@ pub enum Reading {
     BadNumber,
 }
 
-// How a test of a whole line ends.
-#[derive(Clone, Copy)]
-enum Test {
-    Passed,
-    Failed,
-}
-
 // Which part of a line a place is in: before its form, inside it with this many brackets open, behind it.
 #[derive(Clone, Copy)]
 enum Part {
@@ -41,33 +37,33 @@ enum Part {
     Behind,
 }
 
-// 11: whether every byte may stand in a line.
-fn all_allowed(s: &[u8]) -> Test
-    ensures { result ≡ tested (all allowed s.now) }
+fn is_allowed(b: u8) -> bool
+    ensures { result ≡ allowed b }
 {
-    if text::scan(s, 0, RUN | BRACKET | SPACE) < s.len() {
-        return Test::Failed;
-    }
-    Test::Passed
+    text::is_in_run(b) || b == b' ' || b == b'(' || b == b')'
 }
 
-// How deep the form that opens just before `at` may be nested: five where its first word is `show`, else four.
-fn deepest_at(s: &[u8], at: usize) -> usize
-    requires { at ≤ length s.now }
-    ensures { result ≡ deepest (opened ∷ tokens (drop at s.now)) }
+// 11: whether every byte may stand in a line.
+fn all_allowed(s: &[u8]) -> bool
+    ensures { result ≡ list_all allowed s.now }
 {
-    let t = text::next_at(s, at);
-    match t {
-        Next::Open(_) => DEEPEST,
-        Next::Close(_) => DEEPEST,
-        Next::Run(a, q) => {
-            if text::same(text::run_of(s, a, q), b"show") {
-                return DEEPEST_IN_SHOW;
-            }
-            DEEPEST
-        }
-        Next::End => DEEPEST,
+    s.iter().all(|b| is_allowed(*b))
+}
+
+// How deep a line's form may be nested: five where its first word is `show`, else four.
+fn deepest(s: &[u8]) -> usize
+    ensures { result ≡ deepest (tokens s.now) }
+{
+    let Some((Piece::Open, form)) = text::first_piece(s) else {
+        return DEEPEST;
+    };
+    let Some((Piece::Run(word), _)) = text::first_piece(form) else {
+        return DEEPEST;
+    };
+    if word == b"show".as_slice() {
+        return DEEPEST_IN_SHOW;
     }
+    DEEPEST
 }
 
 // The part behind a closing bracket, where `depth` brackets were open before it.
@@ -80,77 +76,79 @@ fn out_of(depth: usize) -> Part
     Part::Inside(depth - 1)
 }
 
-// 12: whether a line is one closed form, with only spaces outside it, no deeper than its first word lets. A turn takes one bracket, or the
-// bytes up to the next; spaces are passed over.
-fn one_form(s: &[u8]) -> Test
-    ensures { result ≡ tested (one_form (deepest (tokens s.now)) s.now) }
+// The part behind a bracket or a run, where at most `most` brackets may be open; none where the line is not one form.
+fn behind(most: usize, part: Part, piece: Piece<'_>) -> Option<Part>
+    ensures { PartIs most part (said piece.entry) result }
 {
-    let mut part = Part::Before;
-    let mut most = DEEPEST;
-    let mut i = text::scan(s, 0, SPACE);
-    while i < s.len() {
-        let b = s[i];
-        i += 1;
-        match part {
-            Part::Before => {
-                if b != b'(' {
-                    return Test::Failed;
-                }
-                part = Part::Inside(1);
-                most = deepest_at(s, i);
+    match (part, piece) {
+        (Part::Before, Piece::Open) => Some(Part::Inside(1)),
+        (Part::Before, _) => None,
+        (Part::Inside(depth), Piece::Open) => {
+            if most <= depth {
+                return None;
             }
-            Part::Inside(depth) => {
-                if b == b'(' {
-                    if most <= depth {
-                        return Test::Failed;
-                    }
-                    part = Part::Inside(depth + 1);
-                } else if b == b')' {
-                    part = out_of(depth);
-                } else {
-                    i = text::scan(s, i, RUN | SPACE | OTHER);
-                }
-            }
-            Part::Behind => return Test::Failed,
+            Some(Part::Inside(depth + 1))
         }
-        i = text::scan(s, i, SPACE);
+        (Part::Inside(depth), Piece::Close) => Some(out_of(depth)),
+        (Part::Inside(depth), Piece::Run(_)) => Some(Part::Inside(depth)),
+        (Part::Behind, _) => None,
+    }
+}
+
+// 12: whether a line of allowed bytes is one closed form, no deeper than its first word lets.
+fn one_form(s: &[u8]) -> bool
+    requires { all allowed s.now ≡ true }
+    ensures { result ≡ one_form (deepest (tokens s.now)) s.now }
+{
+    let most = deepest(s);
+    let mut part = Part::Before;
+    let mut left = s;
+    while let Some((piece, rest)) = text::first_piece(left) {
+        let Some(next) = behind(most, part, piece) else {
+            return false;
+        };
+        part = next;
+        left = rest;
     }
     match part {
-        Part::Before => Test::Failed,
-        Part::Inside(_) => Test::Failed,
-        Part::Behind => Test::Passed,
+        Part::Before => false,
+        Part::Inside(_) => false,
+        Part::Behind => true,
     }
 }
 
 // 13: whether a run that starts with a digit is a number.
-fn is_sound(run: &[u8]) -> bool
+fn is_number_if_digit(run: &[u8]) -> bool
     ensures { result ≡ number_if_digit run.now }
 {
-    if run.len() == 0 {
+    let Some((first, _)) = run.split_first() else {
         return true;
-    }
-    if !text::is_digit(run[0]) {
-        return true;
-    }
-    let Number::Is(_) = text::number_of(run) else {
-        return false;
     };
-    true
+    !text::is_digit(*first) || text::number_of(run).is_some()
+}
+
+// The same of a bracket or a run.
+fn is_sound(piece: Piece<'_>) -> bool
+    ensures { result ≡ sound_token (said piece.entry) }
+{
+    match piece {
+        Piece::Run(run) => is_number_if_digit(run),
+        _ => true,
+    }
 }
 
 // 13: whether every run of a line that starts with a digit is a number.
-fn all_sound(s: &[u8]) -> Test
-    ensures { result ≡ tested (all sound_token (tokens s.now)) }
+fn all_sound(s: &[u8]) -> bool
+    ensures { result ≡ all sound_token (tokens s.now) }
 {
-    let mut i = 0;
-    while i < s.len() {
-        let e = text::scan(s, i, RUN);
-        if !is_sound(text::run_of(s, i, e)) {
-            return Test::Failed;
+    let mut left = s;
+    while let Some((piece, tail)) = text::first_piece(left) {
+        if !is_sound(piece) {
+            return false;
         }
-        i = text::scan(s, e, BRACKET | SPACE | OTHER);
+        left = tail;
     }
-    Test::Passed
+    true
 }
 
 // The first test that a line fails, each made over the entire line before the next.
@@ -160,15 +158,15 @@ pub fn reading_of(line: &[u8]) -> Reading
     if LONGEST < line.len() {
         return Reading::TooLong;
     }
-    let Test::Passed = all_allowed(line) else {
+    if !all_allowed(line) {
         return Reading::BadByte;
-    };
-    let Test::Passed = one_form(line) else {
+    }
+    if !one_form(line) {
         return Reading::NotOneForm;
-    };
-    let Test::Passed = all_sound(line) else {
+    }
+    if !all_sound(line) {
         return Reading::BadNumber;
-    };
+    }
     Reading::Sound
 }
 

@@ -1,10 +1,11 @@
 -- Laws of tokens.
 use mathlib.Core.Path.{◌≡◌, refl, sym, ap, ◌∙◌}
-use mathlib.Core.Bool.{Bool, true, false, not, ◌||◌}
+use mathlib.Core.Bool.{Bool, true, false, not, ◌&&◌, ◌||◌}
 use mathlib.Core.List.{List, [], ◌∷◌}
 use Prim.Native.Nat.{ℕ, suc, ◌+◌, ◌<◌}
 use native.Mathlib.Omega.{arith}
 use lib.Dec.{eqb}
+use lib.Pointwise.{pointwise}
 use lib.ListN.{length, get_or, take, drop, length-drop}
 use lib.Seq.{get_or-drop}
 use Rattle.whole.specs.Lists.{within}
@@ -42,6 +43,18 @@ same_true (x ∷ a) [] e = clash e
 same_true (x ∷ a) (y ∷ b) e =
     let t = and_true (eqb x y) (same a b) e in
     rw (eqb-true x y t.0, same_true a b t.1)
+
+-- what `==` finds of two slices
+same_pointwise : (a b : List ℕ) → pointwise eqb a b ≡ same a b
+unfolding same
+same_pointwise [] [] = refl
+same_pointwise [] (y ∷ b) = refl
+same_pointwise (x ∷ a) [] = refl
+same_pointwise (x ∷ a) (y ∷ b) = ap (◌&&◌ (eqb x y)) (same_pointwise a b)
+
+-- the same of slices that a test compared: a with b, which has the bytes w
+pub same_slices : (a w : List ℕ) {b : List ℕ} {x : Bool} → b ≡ w → x ≡ pointwise eqb a b → same a w ≡ x
+same_slices a w e f = sym (f ∙ ap (pointwise eqb a) e ∙ same_pointwise a w)
 
 -- bytes that begin no token change nothing
 no_token : (b : ℕ) (s : List ℕ) (x y z : Bool) → in_run b ≡ x → eqb b 40 ≡ y → eqb b 41 ≡ z → (x || y || z) ≡ false → tokens (b ∷ s) ≡ tokens s

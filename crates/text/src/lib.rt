@@ -8,6 +8,9 @@ ghost use Rattle.text.specs.Front.{starts_token, gap, digits_from, led_by};
 // The greatest number.
 const GREATEST_NUMBER: u64 = 999999999;
 
+// What stands in front of other digits in no number.
+const ZERO: u8 = b'0';
+
 // A bracket, or a run of digits and letters: the very bytes of the line.
 #[derive(Clone, Copy)]
 pub enum Piece<'a> {
@@ -92,7 +95,7 @@ pub fn number_of(run: &[u8]) -> Option<u32>
     ensures { result ≡ number_of run.now }
 {
     let (first, behind) = run.split_first()?;
-    if *first == b'0' && !behind.is_empty() {
+    if *first == ZERO && !behind.is_empty() {
         return None;
     }
     digits_of(run)

@@ -1,12 +1,10 @@
 -- `all_sound`: 13: whether every run of a line that starts with a digit is a number.
-use mathlib.Core.Path.{◌≡◌}
-use Prim.Native.Nat.{◌≤◌, ◌-◌}
-use lib.ListN.{length, drop}
+use Rattle.std.proofs.Common.{◌≡◌, length}
 use Rattle.line_codes.proofs.Sounds.{sound}
 use Rattle.line_codes.proofs.all_sound.Given as goal
 
-abbrev pub invariant-loop-i : goal.invariant-loop-i
-invariant-loop-i l = (l.i ≤ length l.s) × (sound (drop l.i l.s) ≡ sound l.s)
+abbrev pub invariant-loop-piece : goal.invariant-loop-piece
+invariant-loop-piece l = sound l.left ≡ sound l.s
 
-abbrev pub decreases-loop-i : goal.decreases-loop-i
-decreases-loop-i l = length l.s - l.i
+abbrev pub decreases-loop-piece : goal.decreases-loop-piece
+decreases-loop-piece l = length l.left
