@@ -19,6 +19,8 @@ const DEEPEST: usize = 4;
 
 const DEEPEST_IN_SHOW: usize = 5;
 
+const SHOW: &[u8] = b"show";
+
 // What the tests of a whole line find, in their order.
 #[derive(Clone, Copy)]
 pub enum Reading {
@@ -60,7 +62,7 @@ fn deepest(s: &[u8]) -> usize
     let Some((Piece::Run(word), _)) = text::first_piece(form) else {
         return DEEPEST;
     };
-    if word == b"show".as_slice() {
+    if word == SHOW {
         return DEEPEST_IN_SHOW;
     }
     DEEPEST
