@@ -18,24 +18,6 @@ use mir.Facts.{to_z-of_z}
 use Rattle.sign.specs.Sign.{plus, minus}
 use Rattle.reply.specs.Written.{over, into, digits, decimal, figure}
 
-pub over_none : (l : List ℕ) → over [] l ≡ l
-unfolding over
-over_none l = refl
-
--- one byte more
-pub over_snoc : (w l : List ℕ) (n x : ℕ) → length w ≡ n → n < length l → set (over w l) n x ≡ over (w ++ x ∷ []) l
-unfolding over
-over_snoc w l n x e p =
-    let a : drop n l ≡ get_or l n 0 ∷ drop (suc n) l = drop-cons l n 0 p in
-    let b : length (w ++ x ∷ []) ≡ suc n = length-append w (x ∷ []) ∙ omega arith in
-    rw (e, a, b) (set_at w (get_or l n 0) (drop (suc n) l) x n e ∙ sym (append_snoc w x (drop (suc n) l)))
-
--- the first n bytes, one at a time
-pub over_next : (w l : List ℕ) (i : ℕ) → i < length w → length w ≤ length l → set (over (take i w) l) i (get_or w i 0) ≡ over (take (i + 1) w) l
-over_next w l i p q =
-    over_snoc (take i w) l i (get_or w i 0) (length-take-le i w (omega arith)) (omega arith)
-    ∙ ap (λ (x : List ℕ). over x l) (rw (add-one, take-suc w i 0))
-
 -- what a part that was lent says of the whole
 pub over_part :
     (v w l : List ℕ) (n : ℕ) → length v ≡ n → length v + length w ≤ length l → into n w (over v l) ≡ over (v ++ w) l

@@ -6,17 +6,14 @@ ghost use Rattle.reply.specs.Written.{over, into, digits, decimal, figure, two_d
 ghost use Rattle.reply.specs.Replies.{coded_reply, answer_reply, refusal_reply, verdict_reply, total_reply};
 
 // A text over the front of a buffer.
+#[tactic(auto, unfolding(crate::specs::Written::over))]
 fn put(out: &mut [u8], w: &[u8]) -> usize
     requires { length w.now ≤ length out.old }
     ensures value { result ≡ length w.now }
     ensures out_after { out.new ≡ over w.now out.old }
 {
-    let mut i = 0;
-    while i < w.len() {
-        out[i] = w[i];
-        i += 1;
-    }
-    i
+    out[..w.len()].copy_from_slice(w);
+    w.len()
 }
 
 // The decimal digits of n, of which there are at most k, over the front of a buffer.

@@ -3,8 +3,8 @@ use native.Mathlib.Omega.{arith}
 use Rattle.reply.proofs.Writing.{lent}
 use Rattle.reply.proofs.append.Goals as goal
 
-pub returns : goal.returns
-returns c =
+pub returns-clause-out_after : goal.returns-clause-out_after
+returns-clause-out_after c =
     let args = c.args in
     let e = c.put.ensures in
-    record { value = omega arith; out_after = lent args.out.now args.at args.w.now _ (omega arith) e.out_after }
+    lent args.out.now args.at args.w.now _ (omega arith) e.out_after

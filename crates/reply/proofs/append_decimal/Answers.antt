@@ -4,8 +4,8 @@ use Rattle.reply.specs.Written.{decimal}
 use Rattle.reply.proofs.Writing.{lent}
 use Rattle.reply.proofs.append_decimal.Goals as goal
 
-pub returns : goal.returns
-returns c =
+pub returns-clause-out_after : goal.returns-clause-out_after
+returns-clause-out_after c =
     let args = c.args in
     let e = c.put_decimal.ensures in
-    record { value = omega arith; out_after = lent args.out.now args.at (decimal args.n) _ (omega arith) e.out_after }
+    lent args.out.now args.at (decimal args.n) _ (omega arith) e.out_after

@@ -7,8 +7,8 @@ use Rattle.reply.specs.Replies.{tail}
 use Rattle.reply.proofs.Writing.{first, more}
 use Rattle.reply.proofs.coded.Goals as goal
 
-pub returns : goal.returns
-returns c =
+pub returns-clause-out_after : goal.returns-clause-out_after
+returns-clause-out_after c =
     let put = c.put-a in
     let l = c.args.out.now in
     let h = c.args.head.now in
@@ -18,4 +18,4 @@ returns c =
     let a = first h l _ _ (put.ensures.value, put.ensures.out_after) in
     let d = more h (two_digits code) l _ _ _ _ a (c.append_code-b.ensures.value, c.append_code-b.ensures.out_after) (omega arith) in
     let e = more (h ++ two_digits code) tail l _ _ _ _ d (c.append.ensures.value, c.append.ensures.out_after) (omega arith) in
-    record { value = e.place; out_after = e.text }
+    e.text
