@@ -4,10 +4,9 @@ use mathlib.Core.Bool.{Bool, true, false, cond}
 use mathlib.Core.List.{List, [], ◌∷◌, ◌++◌, append_assoc, append-nil}
 use Prim.Native.Nat.{ℕ, zero, suc, ◌+◌, ◌-◌, ◌/◌, ◌%◌, ◌^◌, ◌≤◌, ◌<◌}
 use native.Mathlib.Omega.{arith}
-use native.Mathlib.Numerals.{add-one}
 use lib.Dec.{ltb, T}
 use lib.ListN.{length, get_or, set, take, drop, length-append, length-drop, drop_of_length-le}
-use lib.Seq.{drop-cons, take-suc, set_at, append_snoc, drop-drop, take_at, drop_at, length-take-le, take_all, take-append-add, drop-append-add}
+use lib.Seq.{drop-cons, set_at, append_snoc, drop-drop, take_at, drop_at, length-take-le, take_all, take-append-add, drop-append-add}
 use borrow.Author.Tests.{lt-ltb, le-ltb, ltb-true}
 use native.Mathlib.Nat.{pow-suc}
 use lib.Signed.{lt_z}
@@ -17,6 +16,18 @@ use mir.Val.{SFits, to_z, of_z}
 use mir.Facts.{to_z-of_z}
 use Rattle.sign.specs.Sign.{plus, minus}
 use Rattle.reply.specs.Written.{over, into, digits, decimal, figure}
+
+pub over_none : (l : List ℕ) → over [] l ≡ l
+unfolding over
+over_none l = refl
+
+-- one byte more
+pub over_snoc : (w l : List ℕ) (n x : ℕ) → length w ≡ n → n < length l → set (over w l) n x ≡ over (w ++ x ∷ []) l
+unfolding over
+over_snoc w l n x e p =
+    let a : drop n l ≡ get_or l n 0 ∷ drop (suc n) l = drop-cons l n 0 p in
+    let b : length (w ++ x ∷ []) ≡ suc n = length-append w (x ∷ []) ∙ omega arith in
+    rw (e, a, b) (set_at w (get_or l n 0) (drop (suc n) l) x n e ∙ sym (append_snoc w x (drop (suc n) l)))
 
 -- what a part that was lent says of the whole
 pub over_part :
