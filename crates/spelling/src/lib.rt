@@ -4,10 +4,11 @@
 ghost use Rattle.std.specs.Prelude.{◌≡◌, ◌++◌, ◌+◌, ◌≤◌, length};
 ghost use Rattle.text.specs.Token.{tokens};
 ghost use Rattle.reply.specs.Written.{over, into};
-ghost use Rattle.spelling.specs.Spelling.{space_if};
-ghost use Rattle.spelling.specs.Spelling.{spell};
+ghost use Rattle.text.specs.Front.{said};
+ghost use Rattle.spelling.specs.Spelling.{ends_item, space_if, spell};
+ghost use Rattle.spelling.specs.Walk.{piece};
 
-use text::Next;
+use text::Piece;
 
 // A space where it is asked for, and a text, behind the `at` bytes that are written already.
 fn add(out: &mut [u8], at: usize, apart: bool, w: &[u8]) -> usize
@@ -22,35 +23,42 @@ fn add(out: &mut [u8], at: usize, apart: bool, w: &[u8]) -> usize
     reply::append(out, at, w)
 }
 
+// A bracket or a run, likewise.
+fn add_piece(out: &mut [u8], at: usize, ended: bool, p: Piece<'_>) -> usize
+    requires { at + length (piece ended (said p)) ≤ length out.old }
+    ensures value { result ≡ at + length (piece ended (said p.entry)) }
+    ensures out_after { out.new ≡ into at (piece ended (said p.entry)) out.old }
+{
+    match p {
+        Piece::Open => add(out, at, ended, b"("),
+        Piece::Close => add(out, at, false, b")"),
+        Piece::Run(run) => add(out, at, ended, run),
+    }
+}
+
+// Whether an item ends with it.
+fn ends_item(p: Piece<'_>) -> bool
+    ensures { result ≡ ends_item (said p.entry) }
+{
+    match p {
+        Piece::Open => false,
+        Piece::Close | Piece::Run(_) => true,
+    }
+}
+
 // The tokens of a line in the one spelling, over the front of a buffer: token by token, with the space in front of each.
 pub fn spell(s: &[u8], out: &mut [u8]) -> usize
     requires { length (spell (tokens s.now)) ≤ length out.old }
     ensures value { result ≡ length (spell (tokens s.now)) }
     ensures out_after { out.new ≡ over (spell (tokens s.now)) out.old }
 {
-    let mut p = 0;
+    let mut left = s;
     let mut w = 0;
     let mut ended = false;
-    loop {
-        match text::next_at(s, p) {
-            Next::Open(q) => {
-                w = add(out, w, ended, b"(");
-                ended = false;
-                p = q;
-            }
-            Next::Close(q) => {
-                w = add(out, w, false, b")");
-                ended = true;
-                p = q;
-            }
-            Next::Run(a, q) => {
-                w = add(out, w, ended, text::run_of(s, a, q));
-                ended = true;
-                p = q;
-            }
-            Next::End => {
-                return w;
-            }
-        }
+    while let Some((p, rest)) = text::first_piece(left) {
+        w = add_piece(out, w, ended, p);
+        ended = ends_item(p);
+        left = rest;
     }
+    w
 }
