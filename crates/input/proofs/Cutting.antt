@@ -1,15 +1,15 @@
 -- Laws of lines, as the loops over a block use them: where a line ends, and how an input is cut.
 use mathlib.Core.Path.{◌≡◌, refl, sym, ◌∙◌, ap}
-use mathlib.Core.Bool.{Bool, true, false, cond}
-use mathlib.Core.List.{List, [], ◌∷◌, ◌++◌, append_assoc, append-nil}
-use Prim.Native.Nat.{ℕ, zero, suc, ◌+◌, ◌-◌, ◌≤◌, ◌<◌}
+use mathlib.Core.Bool.{Bool, true, false, cond, not}
+use mathlib.Core.List.{List, [], ◌∷◌, ◌++◌, append-nil}
+use Prim.Native.Nat.{ℕ, zero, suc, ◌+◌, ◌-◌, ◌≤◌, ◌<◌, min}
+use native.Mathlib.Decide.{dec_lt}
 use native.Mathlib.Omega.{arith}
-use native.Mathlib.Numerals.{add-one}
-use lib.ListN.{length, get_or, take, drop, set, length-append, length-take, length-drop}
-use lib.Seq.{take-suc, take-suc-set, take-append-add, take_all, take-add, drop-drop, get_or-take}
-use borrow.Author.Tests.{ne_eqb, eqb-true, eqb-false}
+use lib.ListN.{length, get_or, take, drop, length-append, length-take, length-drop}
+use lib.Seq.{take-append-add, take_all, take-add, drop-drop, get_or-take}
+use borrow.Author.Tests.{eqb-true, eqb-false}
 use lib.Dec.{eqb}
-use Rattle.whole.proofs.Lists.{drop_next, drop_end}
+use Rattle.std.specs.List.{prefix_len}
 use Rattle.input.specs.Lines.{Cut, cut, ended, longer, joined, NoNewline, CutLaw, line_length, between}
 
 -- ---- none, or at least one
@@ -17,20 +17,15 @@ pub by_count : {P : Type 0} (n : ℕ) → (n ≡ 0 → P) → (0 < n → P) → 
 by_count zero z p = z refl
 by_count (suc n) z p = p (omega arith)
 
--- ---- the way to the next byte 10
-module _ (s : List ℕ) (i : ℕ) where
-  pub line_out : length s ≤ i → line_length (drop i s) ≡ 0
-  unfolding line_length
-  line_out p = rw (drop_end s i 0 p)
-
-  module _ (p : i < length s) where
-    pub line_stop : get_or s i 0 ≡ 10 → line_length (drop i s) ≡ 0
-    unfolding line_length
-    line_stop e = rw (drop_next s i 0 p, e)
-
-    pub line_on : (get_or s i 0 ≡ 10 → ⊥) → line_length (drop i s) ≡ suc (line_length (drop (i + 1) s))
-    unfolding line_length
-    line_on e = rw (drop_next s i 0 p, ne_eqb _ 10 e)
+-- what the count of the bytes before the first byte 10 says
+pub before_newline : (s : List ℕ) → prefix_len (λ b. not (eqb b 10)) s ≡ line_length s
+unfolding line_length
+before_newline [] = refl
+before_newline (b ∷ s) = by (eqb b 10) (before_newline s)
+  where
+    by : (x : Bool) → prefix_len (λ c. not (eqb c 10)) s ≡ line_length s → cond (not x) (1 + prefix_len (λ c. not (eqb c 10)) s) 0 ≡ cond x 0 (suc (line_length s))
+    by true e = refl
+    by false e = omega arith
 
 -- up to the first byte 10 there is none, and it stands behind that
 upto_by : (b : ℕ) (s : List ℕ) (x : Bool) → eqb b 10 ≡ x → length (take (line_length s) s) ≤ line_length (take (line_length s) s) →
@@ -80,17 +75,20 @@ no_newlines (b ∷ s) h = newlines_by b s (eqb b 10) refl h (no_newlines s)
 pub front_newlines : (n : ℕ) (l : List ℕ) → NoNewline l → NoNewline (take n l)
 front_newlines n l h i p e = h i (omega (arith, length-take n l)) (sym (get_or-take n l i 0 (omega (arith, length-take n l))) ∙ e)
 
--- ---- a piece that is kept byte by byte behind what is kept already
-pub kept_more : (l k p : List ℕ) (u i : ℕ) → u < length l → i < length p → take u l ≡ k ++ take i p → take (u + 1) (set l u (get_or p i 0)) ≡ k ++ take (i + 1) p
-kept_more l k p u i h g e =
-    rw (add-one, add-one, take-suc-set l u (get_or p i 0) h, e, take-suc p i 0 g) (append_assoc k (take i p) (get_or p i 0 ∷ []))
-
--- where the room ends, or the piece
-pub kept_all : (k p : List ℕ) (n i : ℕ) → n ≡ length k + i → k ++ take i p ≡ take n (k ++ p)
+-- ---- a piece that is kept behind what is kept already
+kept_all : (k p : List ℕ) (n i : ℕ) → n ≡ length k + i → k ++ take i p ≡ take n (k ++ p)
 kept_all k p n i e = rw (e, take-append-add k p i)
 
-pub kept_rest : (k p : List ℕ) (n i : ℕ) → length p ≤ i → length k + length p ≤ n → k ++ take i p ≡ take n (k ++ p)
+kept_rest : (k p : List ℕ) (n i : ℕ) → length p ≤ i → length k + length p ≤ n → k ++ take i p ≡ take n (k ++ p)
 kept_rest k p n i h g = rw (take_all i p h) (sym (take_all n (k ++ p) (omega (arith, length-append k p))))
+
+-- of a piece p behind the bytes k, as many as have room
+pub kept_piece : (k p : List ℕ) (n i : ℕ) → length k ≤ n → i ≡ min (length p) (n - length k) → k ++ take i p ≡ take n (k ++ p)
+kept_piece k p n i h e = by (dec_lt (n - length k) (length p))
+  where
+    by : Dec (n - length k < length p) → k ++ take i p ≡ take n (k ++ p)
+    by (yes g) = kept_all k p n i (omega arith)
+    by (no g) = kept_rest k p n i (omega arith) (omega arith)
 
 -- ---- an input without byte 10
 none_by : (b : ℕ) (s : List ℕ) (x : Bool) → eqb b 10 ≡ x → length (b ∷ s) ≤ cond x 0 (suc (line_length s)) → (length s ≤ line_length s → cut s ≡ record { lines = []; rest = s }) →

@@ -1,7 +1,8 @@
 // The lines of an input, and what the two limits say. Nothing here reads or writes.
 #![tactic(auto)]
 
-ghost use Rattle.std.specs.Prelude.{◌≡◌, ◌++◌, ◌+◌, ◌≤◌, ◌<◌, length, take, drop};
+ghost use Rattle.std.specs.Prelude.{◌==◌, not, ◌≡◌, ◌++◌, ◌+◌, ◌≤◌, ◌<◌, length, take, drop};
+ghost use Rattle.std.specs.List.{prefix_len};
 ghost use Rattle.input.specs.Lines.{most_lines, most_bytes, line_length};
 ghost use Rattle.input.specs.Limits.{Asked, ToldIs};
 
@@ -13,50 +14,28 @@ pub enum Told {
     NoMore,
 }
 
+// How many bytes of a line are kept: one more than a line may have.
+const LONGEST_KEPT: usize = 2001;
+
 // ---- lines of a block
 
-// The place of the next byte 10 from `at` on, or the block's end: four bytes in a turn.
+// How many bytes stand before the first byte 10.
+fn bytes_before(s: &[u8]) -> usize
+    ensures value { result ≡ prefix_len (λ b. not (b == 10)) s.now }
+    ensures upper_bound { result ≤ length s.now }
+{
+    s.iter().take_while(|b| **b != b'\n').count()
+}
+
+// The place of the next byte 10 from `at` on, or the block's end.
+#[tactic(auto, using(crate::proofs::Cutting::before_newline))]
 pub fn line_end(block: &[u8], at: usize) -> usize
     requires { at ≤ length block.now }
     ensures value { result ≡ at + line_length (drop at block.now) }
     ensures upper_bound { result ≤ length block.now }
 {
-    let mut e = at;
-    while 4 <= block.len() - e {
-        if block[e] == b'\n' {
-            return e;
-        }
-        let second = e + 1;
-        if block[second] == b'\n' {
-            return second;
-        }
-        let third = second + 1;
-        if block[third] == b'\n' {
-            return third;
-        }
-        let fourth = third + 1;
-        if block[fourth] == b'\n' {
-            return fourth;
-        }
-        e = fourth + 1;
-    }
-    last_end(block, e)
-}
-
-// The same, byte by byte.
-fn last_end(block: &[u8], at: usize) -> usize
-    requires { at ≤ length block.now }
-    ensures value { result ≡ at + line_length (drop at block.now) }
-    ensures upper_bound { result ≤ length block.now }
-{
-    let mut e = at;
-    while e < block.len() {
-        if block[e] == b'\n' {
-            return e;
-        }
-        e += 1;
-    }
-    e
+    let (_, s) = block.split_at(at);
+    at + bytes_before(s)
 }
 
 // ---- a line that has begun
@@ -67,17 +46,9 @@ pub fn keep(line: &mut [u8], used: usize, piece: &[u8]) -> usize
     ensures line_after { take result line.new ≡ take 2001 (take used line.old ++ piece.now) }
     ensures upper_bound { result ≤ 2001 }
 {
-    let mut u = used;
-    let mut i = 0;
-    while i < piece.len() {
-        if 2001 <= u {
-            return u;
-        }
-        line[u] = piece[i];
-        u += 1;
-        i += 1;
-    }
-    u
+    let n = piece.len().min(LONGEST_KEPT - used);
+    line[used..used + n].copy_from_slice(&piece[..n]);
+    used + n
 }
 
 // ---- the limits
@@ -103,7 +74,7 @@ pub fn to_ask(left: u64, used: usize, more: u64) -> usize
         return 0;
     }
     if 0 < more {
-        return choice::smaller(more, 65536) as usize;
+        return more.min(65536) as usize;
     }
     if used == 0 {
         return 0;

@@ -7,7 +7,7 @@ pub returns-then-left-eq0 : goal.returns-then-left-eq0
 returns-then-left-eq0 c = let a = c.args in ask_full a.left a.used a.more c.if-left-eq0.true
 
 pub returns-then-more-gt0 : goal.returns-then-more-gt0
-returns-then-more-gt0 c = let a = c.args in ask_more a.left a.used a.more _ (omega (arith, c.if-left-eq0.false)) c.if-more-gt0.true c.smaller.ensures
+returns-then-more-gt0 c = let a = c.args in ask_more a.left a.used a.more _ (omega (arith, c.if-left-eq0.false)) c.if-more-gt0.true c.min.ensures
 
 pub returns-then-used-eq0 : goal.returns-then-used-eq0
 returns-then-used-eq0 c = let a = c.args in ask_none a.left a.used a.more (omega (arith, c.if-left-eq0.false)) (omega (arith, c.if-more-gt0.false)) c.if-used-eq0.true
