@@ -1,4 +1,4 @@
-pub mod Scans
+pub mod Fronts
 pub mod Numbers
 pub mod Runs
 pub mod Parts

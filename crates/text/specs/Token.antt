@@ -1,8 +1,7 @@
 -- Document 01, Lines of the panel: bytes, runs and tokens.
-use Rattle.std.specs.Prelude.{◌≡◌, Bool, true, false, cond, not, ◌&&◌, ◌||◌, List, [], ◌∷◌, ℕ, suc, ◌+◌, ◌-◌, ◌*◌, eqb, leb, take, drop}
+use Rattle.std.specs.Prelude.{◌≡◌, Bool, true, false, cond, not, ◌&&◌, ◌||◌, List, [], ◌∷◌, ℕ, ◌+◌, ◌-◌, ◌*◌, eqb, leb, take, drop, Option, Some, None}
+use Rattle.std.specs.List.{prefix_len}
 use Rattle.whole.specs.Lists.{within, all}
-use Rattle.text.specs.declared.Number.{Number}
-use Rattle.text.specs.declared.Number.TheVariants.{Is, Bad}
 
 -- a space; an opening and a closing bracket
 abbrev pub space : ℕ
@@ -56,14 +55,9 @@ unfoldable pub tokens : List ℕ → List Token
 tokens [] = []
 tokens (b ∷ s) = tokens_with b s (tokens s)
 
--- how many bytes in front pass the test
-unfoldable pub prefix : (ℕ → Bool) → List ℕ → ℕ
-prefix f [] = 0
-prefix f (b ∷ s) = cond (f b) (suc (prefix f s)) 0
-
 -- how many bytes the run in front has
 abbrev pub run_length : List ℕ → ℕ
-run_length s = prefix in_run s
+run_length s = prefix_len in_run s
 
 -- the plain rule of tokens where a run stands in front: all its bytes are one token, and the tokens behind it are those of what is left
 -- (`run_token`, proofs/Runs.antt)
@@ -100,5 +94,5 @@ abbrev pub is_number : List ℕ → Bool
 is_number [] = false
 is_number (b ∷ s) = all is_digit (b ∷ s) && not (needless_zero (b ∷ s)) && leb (value (b ∷ s)) greatest_number
 
-unfoldable pub number_of : List ℕ → Number
-number_of r = cond (is_number r) (Is (value r)) Bad
+unfoldable pub number_of : List ℕ → Option ℕ
+number_of r = cond (is_number r) (Some (value r)) None

@@ -8,35 +8,18 @@ use Rattle.text.proofs.digits_of.Goals as goal
 
 pub returns-then-not-is_digit : goal.returns-then-not-is_digit
 returns-then-not-is_digit c =
-    let s = c.args.run.now in
-    let i = c.loop-i.i in
-    let v = c.loop-i.v in
-    sym (digits_bad s i (search rules) v (sym c.is_digit.ensures ∙ c.if-not-is_digit.true)) ∙ c.loop-i.invariant.2
+    sym (digits_bad c.args.run.now c.loop-b.b-index (search rules) c.loop-b.v (sym c.is_digit.ensures ∙ c.if-not-is_digit.true)) ∙ c.loop-b.invariant.1
 
 pub overflow_sub-w : goal.overflow_sub-w
 overflow_sub-w c = let d = within_true 48 57 _ (sym c.is_digit.ensures ∙ c.if-not-is_digit.false) in search rules
 
-pub overflow_cast-w : goal.overflow_cast-w
-overflow_cast-w c = let d = within_true 48 57 _ (sym c.is_digit.ensures ∙ c.if-not-is_digit.false) in search rules
-
-pub overflow_add-w : goal.overflow_add-w
-overflow_add-w c = let d = within_true 48 57 _ (sym c.is_digit.ensures ∙ c.if-not-is_digit.false) in search rules
-
 pub returns-then-w-gt-GREATEST_NUMBER : goal.returns-then-w-gt-GREATEST_NUMBER
 returns-then-w-gt-GREATEST_NUMBER c =
-    let s = c.args.run.now in
-    let i = c.loop-i.i in
-    let v = c.loop-i.v in
-    sym (digits_large s i (search rules) v (sym c.is_digit.ensures ∙ c.if-not-is_digit.false) (search rules)) ∙ c.loop-i.invariant.2
+    sym (digits_large c.args.run.now c.loop-b.b-index (search rules) c.loop-b.v (sym c.is_digit.ensures ∙ c.if-not-is_digit.false) (search rules)) ∙ c.loop-b.invariant.1
 
-pub loop-i-preserved : goal.loop-i-preserved
-loop-i-preserved c =
-    let s = c.args.run.now in
-    let i = c.loop-i.i in
-    let v = c.loop-i.v in
-    (omega arith, omega arith, sym (digits_on s i (search rules) v (sym c.is_digit.ensures ∙ c.if-not-is_digit.false)) ∙ c.loop-i.invariant.2)
+pub loop-b-preserved : goal.loop-b-preserved
+loop-b-preserved c =
+    (omega arith, sym (digits_on c.args.run.now c.loop-b.b-index (search rules) c.loop-b.v (sym c.is_digit.ensures ∙ c.if-not-is_digit.false)) ∙ c.loop-b.invariant.1)
 
 pub returns : goal.returns
-returns c =
-    let s = c.args.run.now in
-    sym (digits_out s c.loop-i.i c.loop-i.v c.loop-i.invariant.1 (search rules)) ∙ c.loop-i.invariant.2
+returns c = sym (digits_out c.args.run.now c.loop-b.b-index c.loop-b.v c.loop-b.invariant.0 (search rules)) ∙ c.loop-b.invariant.1

@@ -1,17 +1,28 @@
 -- `number_of`: the number that a run says.
-use mathlib.Core.Path.{sym, ◌∙◌}
+use mathlib.Core.Path.{◌≡◌, sym, ◌∙◌}
 use native.Mathlib.Omega.{arith}
-use Rattle.text.proofs.Numbers.{number_none, number_digits, number_zeros}
+use lib.ListN.{length}
+use borrow.Author.Tests.{eqb-true, eqb-false}
+use Rattle.text.proofs.Numbers.{number_none, number_zeros, number_digits}
 use Rattle.text.proofs.number_of.Goals as goal
+use Rattle.text.proofs.number_of.Goals.{else-first-eq48-via-then-first-eq48+else-not-is_empty, else-first-eq48-via-else-first-eq48}
 
-pub returns-then-run-eq0 : goal.returns-then-run-eq0
-returns-then-run-eq0 c = sym (number_none _ c.if-run-eq0.true)
+pub returns-in_err-first : goal.returns-in_err-first
+returns-in_err-first c = c.from_residual.ensures ∙ sym (number_none _ c.in_err-first.ensures.cases)
 
-pub returns-then-run-eq1 : goal.returns-then-run-eq1
-returns-then-run-eq1 c = c.digits_of.ensures ∙ sym (number_digits _ c.if-run-eq0.false (λ p. absurd (omega arith)))
-
-pub returns-then-run-eq48 : goal.returns-then-run-eq48
-returns-then-run-eq48 c = sym (number_zeros _ (omega arith) c.if-run-eq48.true)
+pub returns-then-not-is_empty : goal.returns-then-not-is_empty
+returns-then-not-is_empty c =
+    let n = eqb-false (length c.in_ok-first.behind.now) 0 (sym c.if-not-is_empty.ensures) in
+    rw c.in_ok-first.ensures.cases.0 (sym (number_zeros _ (omega arith) c.if-first-eq48.true))
 
 pub returns : goal.returns
-returns c = c.digits_of-2.ensures ∙ sym (number_digits _ c.if-run-eq0.false (λ p. c.if-run-eq48.false))
+returns c =
+    let k = c.in_ok-first.ensures.cases.1 in
+    let has : length c.args.run.now ≡ 0 → ⊥ = λ n. absurd (omega arith) in
+    elim c.else-first-eq48.branch [
+      | else-first-eq48-via-then-first-eq48+else-not-is_empty w ↦
+          let n = eqb-true (length c.in_ok-first.behind.now) 0 (sym w.if-not-is_empty.ensures) in
+          c.digits_of.ensures ∙ sym (number_digits _ has (λ p e. absurd (omega arith)))
+      | else-first-eq48-via-else-first-eq48 w ↦
+          c.digits_of.ensures ∙ sym (number_digits _ has (λ p e. w.if-first-eq48.false (rw c.in_ok-first.ensures.cases.0 at e)))
+    ]
