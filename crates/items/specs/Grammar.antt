@@ -1,9 +1,7 @@
 -- Reading a shape from the front of a list of tokens: what was read, and the tokens behind it.
-use Rattle.std.specs.Prelude.{Bool, cond, List, [], ◌∷◌, ℕ, zero, suc, get_or}
+use Rattle.std.specs.Prelude.{Bool, cond, List, [], ◌∷◌, ℕ, zero, suc, get_or, Option, Some, None}
 use Prim.Native.String.{String}
 use Rattle.whole.specs.Bytes.{bytes}
-use Rattle.text.specs.declared.Number.{Number}
-use Rattle.text.specs.declared.Number.TheVariants.{Is, Bad}
 use Rattle.text.specs.Token.{Token, opened, closed, run, number_of, same}
 
 pub data Parsed (A : Type 0) : Type 0 where
@@ -49,9 +47,9 @@ unfoldable pub named : {A : Type 0} → List (String × A) → A → List ℕ �
 named [] other r = other
 named ((w, a) ∷ table) other r = cond (is r w) a (named table other r)
 
-abbrev pub got_number : Number → List Token → Parsed ℕ
-got_number (Is v) ts = got v ts
-got_number Bad ts = none
+abbrev pub got_number : Option ℕ → List Token → Parsed ℕ
+got_number (Some v) ts = got v ts
+got_number None ts = none
 
 -- a number
 unfoldable pub number? : List Token → Parsed ℕ
