@@ -101,8 +101,17 @@ module _ {A B : Type 0} (f : A → B) where
   carries_none (got a us) e = let z : ◌≡◌ {A = ℕ} 1 0 = ap is_got e in absurd (omega arith)
   carries_none none e = refl
 
-pub nth_kept : (k : ℕ) (vs x : List ℕ) (n : ℕ) → take k vs ≡ map carried x → n < k → carried (nth x n) ≡ get_or vs n 0
-nth_kept k vs x n e h = sym (get_or-map carried x n 0) ∙ ap (λ (l : List ℕ). get_or l n 0) (sym e) ∙ get_or-take k vs n 0 h
+-- a record made of the last thing that was read
+module _ {A C R S : Type 0} (f : R → S) (mk : A → R) (g : A → C) (p : Parsed A) where
+  pub built : (y : C) (us : List Token) (b : S) → carry g p ≡ got y us → ((x : A) → y ≡ g x → f (mk x) ≡ b) →
+      carry f (p and_then λ x us. got (mk x) us) ≡ got b us
+  built y us b e k = let i = carries g p y us e in rw (i.is, k i.read i.kept)
+
+  pub unbuilt : carry g p ≡ none → carry f (p and_then λ x us. got (mk x) us) ≡ none
+  unbuilt e = rw (carries_none g p e)
+
+pub nth_kept : (vs x : List ℕ) (n : ℕ) → vs ≡ map carried x → carried (nth x n) ≡ get_or vs n 0
+nth_kept vs x n e = sym (get_or-map carried x n 0) ∙ ap (λ (l : List ℕ). get_or l n 0) (sym e)
 
 -- ---- the last items of a form
 module _ {A : Type 0} (item : List Token → Parsed A) where
@@ -142,7 +151,7 @@ some_more (x ∷ xs) ts h = refl
 
 -- items that are carried as they are read, or all of them behind the form
 module _ {A B : Type 0} (f : A → B) (item : List Token → Parsed A) where
-  abbrev kept : List Token → Parsed B
+  abbrev pub kept : List Token → Parsed B
   kept ts = carry f (item ts)
 
   one_kept : (k : ℕ) → ((us : List Token) → items? k kept us ≡ carry (map f) (items? k item us)) → (c : Parsed (Unit {0})) (p : Parsed A) →
@@ -175,6 +184,15 @@ module _ {A B : Type 0} (f : A → B) (item : List Token → Parsed A) where
       some (got [] us) = refl
       some (got (x ∷ xs) us) = refl
       some none = refl
+
+  -- a record made of several of them
+  module _ {R S : Type 0} (made : R → S) (mk : List A → R) (k : ℕ) (us : List Token) where
+    pub several_built : (ys : List B) (ws : List Token) (b : S) → several? k kept us ≡ got ys ws → ((xs : List A) → ys ≡ map f xs → made (mk xs) ≡ b) →
+        carry made (several? k item us and_then λ xs ws. got (mk xs) ws) ≡ got b ws
+    several_built ys ws b e = built made mk (map f) (several? k item us) ys ws b (sym (several_kept k us) ∙ e)
+
+    pub several_unbuilt : several? k kept us ≡ none → carry made (several? k item us and_then λ xs ws. got (mk xs) ws) ≡ none
+    several_unbuilt e = unbuilt made mk (map f) (several? k item us) (sym (several_kept k us) ∙ e)
 
 -- nothing stands behind the form
 pub whole_end : {A : Type 0} (a other : A) (ts : List Token) → is_end ts ≡ true → whole? (got a ts) other ≡ a
