@@ -47,13 +47,14 @@ unfoldable pub named : {A : Type 0} → List (String × A) → A → List ℕ �
 named [] other r = other
 named ((w, a) ∷ table) other r = cond (is r w) a (named table other r)
 
-abbrev pub got_number : Option ℕ → List Token → Parsed ℕ
-got_number (Some v) ts = got v ts
-got_number None ts = none
+-- what stands behind a word, by what the word stands for, if anything
+abbrev pub behind? : {W A : Type 0} → (W → List Token → Parsed A) → Option W → List Token → Parsed A
+behind? shape (Some w) ts = shape w ts
+behind? shape None ts = none
 
 -- a number
 unfoldable pub number? : List Token → Parsed ℕ
-number? ts = run? ts and_then λ r us. got_number (number_of r) us
+number? ts = run? ts and_then λ r us. behind? got (number_of r) us
 
 -- k numbers
 unfoldable pub numbers? : ℕ → List Token → Parsed (List ℕ)

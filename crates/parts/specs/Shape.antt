@@ -7,7 +7,7 @@ use Rattle.record.specs.declared.Cell.TheVariants.{Wing, Hatch, Void}
 use Rattle.record.specs.declared.Part.{Part}
 use Rattle.record.specs.Filler.{no_cell, padded}
 use Rattle.text.specs.Token.{Token}
-use Rattle.items.specs.Grammar.{Parsed, got, none, ◌and_then◌, head?, is, named, number?, nth, last_numbers?, several?}
+use Rattle.items.specs.Grammar.{Parsed, got, none, ◌and_then◌, head?, is, named, behind?, number?, nth, last_numbers?, several?}
 use Rattle.parts.specs.declared.CellWord.{CellWord}
 use Rattle.parts.specs.declared.CellWord.TheVariants.{WingWord, HatchWord, VoidWord}
 
@@ -27,12 +27,11 @@ cell_of HatchWord v = Hatch (nth v 0) (nth v 1) (nth v 2)
 cell_of VoidWord v = Void (nth v 0) (nth v 1) (nth v 2)
 
 -- a cell, by its word
-abbrev pub cell_by : Option CellWord → List Token → Parsed Cell
-cell_by (Some w) ts = last_numbers? (numbers_of w) ts and_then λ v us. got (cell_of w v) us
-cell_by None ts = none
+abbrev pub cell_by : CellWord → List Token → Parsed Cell
+cell_by w ts = last_numbers? (numbers_of w) ts and_then λ v us. got (cell_of w v) us
 
 unfoldable pub cell? : List Token → Parsed Cell
-cell? ts = head? ts and_then λ r us. cell_by (cell_named r) us
+cell? ts = head? ts and_then λ r us. behind? cell_by (cell_named r) us
 
 -- a part of cells, and a part of four sizes; unused places are filled, so that equal records are equal values
 abbrev pub section_record : ℕ → List Cell → Part
