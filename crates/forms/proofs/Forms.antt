@@ -9,18 +9,14 @@ use Rattle.record.specs.declared.Column.{Column}
 use Rattle.record.specs.Filler.{no_column, no_hold}
 use Rattle.text.specs.Token.{Token}
 use Rattle.items.specs.Grammar.{open?, close?, run?, number?, last_numbers?}
-use Rattle.items.proofs.Yields.{Yields, yields, nothing, yields_with, yields_then, last_yield, Several, several_yield}
+use Rattle.items.proofs.Yields.{Yields, yields, yields_with, yields_then, yields_behind, last_yield, Several, several_yield}
 use Rattle.parts.specs.Shape.{part?}
-use Rattle.forms.specs.declared.RuleNamed.{RuleNamed}
-use Rattle.forms.specs.declared.RuleNamed.TheVariants.{Under, NoRule}
-use Rattle.forms.specs.declared.ModeNamed.{ModeNamed}
-use Rattle.forms.specs.declared.ModeNamed.TheVariants.{As, NoMode}
 use Rattle.forms.specs.declared.FormWord.{FormWord}
-use Rattle.forms.specs.declared.FormWord.TheVariants.{ShipWord, ColumnWord, LoadWord, HoldWord, DropWord, JudgeWord, ClearWord, NoWord}
+use Rattle.forms.specs.declared.FormWord.TheVariants.{ShipWord, ColumnWord, LoadWord, HoldWord, DropWord, JudgeWord, ClearWord}
 use Rattle.forms.specs.declared.Kind.{Kind}
 use Rattle.forms.specs.declared.Kind.TheVariants.{HoldLine, JudgeLine, ClearLine}
 use Rattle.forms.specs.declared.Request.{Request}
-use Rattle.forms.specs.Shape.{hold_record, hold_request, rule_named, ship_by, ship?, column?, load?, mode_named, parts_by, parts?, hold?, drop?, bare?, form_by}
+use Rattle.forms.specs.Shape.{hold_record, hold_request, rule_named, ship?, column?, load?, mode_named, parts?, hold?, drop?, bare?, form_by}
 
 -- ---- a request: a hold of parts that were read, or no hold and a column of ten KN
 module _ (P : Request → Type 0) (Q : Mode → Part → Type 0) (part : (m : Mode) (ts : List Token) → Yields (Q m) (part? m ts)) (hold : (n : ℕ) (m : Mode) (factor : ℕ) (ps : List Part) → Several (Q m) 6 ps → P (hold_request n (hold_record m factor ps))) (other : (k : Kind) (c : Column) → ((n : ℕ) → k ≡ HoldLine n → ◌≡◌ {A = ℕ} 0 1) → length c.kn ≡ 10 → P (record { kind = k; hold = no_hold; column = c })) where
@@ -32,19 +28,11 @@ module _ (P : Request → Type 0) (Q : Mode → Part → Type 0) (part : (m : Mo
 
   hold_yields : (ts : List Token) → Yields P (hold? ts)
   unfolding hold?
-  hold_yields ts = yields_then (number? ts) (λ n us. yields_then (run? us) (λ r ws. by n (mode_named r) ws))
-    where
-      by : (n : ℕ) (m : ModeNamed) (ws : List Token) → Yields P (parts_by n m ws)
-      by n (As m) ws = parts_yield n m ws
-      by n NoMode ws = nothing
+  hold_yields ts = yields_then (number? ts) (λ n us. yields_then (run? us) (λ r ws. yields_behind (mode_named r) (parts_yield n) ws))
 
   ship_yields : (ts : List Token) → Yields P (ship? ts)
   unfolding ship?
-  ship_yields ts = yields_then (run? ts) (λ r us. by (rule_named r) us)
-    where
-      by : (r : RuleNamed) (us : List Token) → Yields P (ship_by r us)
-      by (Under w) us = yields_then (last_numbers? 2 us) (λ v ws. yields (other _ no_column (λ n e. cc) refl))
-      by NoRule us = nothing
+  ship_yields ts = yields_then (run? ts) (λ r us. yields_behind (rule_named r) (λ w vs. yields_then (last_numbers? 2 vs) (λ v ws. yields (other _ no_column (λ n e. cc) refl))) us)
 
   column_yields : (ts : List Token) → Yields P (column? ts)
   unfolding column?
@@ -73,4 +61,3 @@ module _ (P : Request → Type 0) (Q : Mode → Part → Type 0) (part : (m : Mo
   form_by_yields DropWord us = drop_yields us
   form_by_yields JudgeWord us = bare_yields JudgeLine (λ n e. cc) us
   form_by_yields ClearWord us = bare_yields ClearLine (λ n e. cc) us
-  form_by_yields NoWord us = nothing

@@ -1,20 +1,25 @@
 -- Laws of the records that the shapes make.
-use mathlib.Core.Path.{◌≡◌, refl}
+use mathlib.Core.Path.{◌≡◌, refl, ◌∙◌}
 use mathlib.Core.List.{List, map}
-use Prim.Native.Nat.{ℕ}
-use lib.ListN.{length}
-use Rattle.text.specs.Token.{Token}
+use Prim.Native.Nat.{ℕ, ◌≤◌}
+use lib.ListN.{length, take, replicate, length-map}
+use Rattle.std.specs.Prelude.{Some}
+use Rattle.std.specs.Borrow.{Bor}
+use Rattle.text.specs.Token.{Token, tokens}
 use Rattle.record.specs.declared.Part.{Part}
 use Rattle.record.specs.declared.Mode.{Mode}
 use Rattle.record.specs.Filler.{no_part, padded}
-use Rattle.items.specs.Grammar.{Parsed, got, none, ◌and_then◌, close?}
+use Rattle.items.specs.Grammar.{Parsed, got, none, ◌and_then◌, close?, number?, several?}
 use Rattle.items.specs.Carried.{carry, carried}
+use Rattle.items.specs.Reads.{Fills}
+use Rattle.items.proofs.Walks.{carries, kept, several_built, several_unbuilt}
+use Rattle.parts.specs.Shape.{part?}
 use Rattle.parts.specs.Carried.{carried_part}
-use Rattle.parts.proofs.Records.{map_padded}
+use Rattle.parts.proofs.Records.{map_padded, filled}
 use Rattle.forms.specs.declared.RuleWord.{RuleWord}
 use Rattle.forms.specs.declared.RuleWord.TheVariants.{NewWord, OldWord}
 use Rattle.forms.specs.declared.Kind.{Kind}
-use Rattle.forms.specs.Shape.{rule_of, hold_record, hold_request, plain, bare?}
+use Rattle.forms.specs.Shape.{rule_of, hold_record, hold_request, parts?, plain, bare?}
 use Rattle.forms.specs.Carried.{carried_rule, carried_kind, carried_request}
 
 -- a rule with its edge, as it is carried
@@ -27,6 +32,22 @@ pub hold_kept : (n : ℕ) (mode : Mode) (factor : ℕ) (xs : List Part) → carr
     hold_request n (record { head = record { mode = mode; factor = carried factor; count = length xs }; parts = padded 6 no_part (map carried_part xs) })
 unfolding carried_request
 hold_kept n mode factor xs = rw (map_padded carried_part 6 no_part xs)
+
+module _ (n : ℕ) (mode : Mode) (ts : List Token) (v : ℕ) (us : List Token) (factor : carry carried (number? ts) ≡ got v us) where
+  pub parts_none : several? 6 (kept carried_part (part? mode)) us ≡ none → carry carried_request (parts? n mode ts) ≡ none
+  unfolding parts?
+  parts_none e =
+      let i = carries carried (number? ts) v us factor in
+      rw i.is (several_unbuilt carried_part (part? mode) carried_request (λ ps. hold_request n (hold_record mode i.read ps)) 6 us e)
+
+  pub parts_read : (count : ℕ) (parts : List Part) (ws : Bor (List ℕ)) → count ≤ 6 → length parts ≡ 6 → Fills (several? 6 (kept carried_part (part? mode)) us) (replicate 6 no_part) parts (Some (count, ws)) →
+      carry carried_request (parts? n mode ts) ≡ got (hold_request n (record { head = record { mode = mode; factor = v; count = count }; parts = parts })) (tokens ws.now)
+  unfolding parts?
+  parts_read count parts ws h l e =
+      let i = carries carried (number? ts) v us factor in
+      let front = filled 6 no_part count parts h l e.1 in
+      rw i.is (several_built carried_part (part? mode) carried_request (λ ps. hold_request n (hold_record mode i.read ps)) 6 us (take count parts) (tokens ws.now) _ e.0
+      (λ xs m. hold_kept n mode i.read xs ∙ rw (← i.kept, ← length-map xs carried_part, ← m, front.0, ← front.1)))
 
 -- a request of a kind that holds no numbers is carried as it is
 pub bare_kept : (k : Kind) (ts : List Token) → carried_kind k ≡ k → carry carried_request (bare? k ts) ≡ bare? k ts

@@ -1,6 +1,6 @@
 -- Document 01, Lines of the panel: the shapes of its forms. Those of cells and parts are in parts/specs/Shape.antt, those of lines in
 -- request/specs/Shape.antt.
-use Rattle.std.specs.Prelude.{List, [], ◌∷◌, ℕ, length}
+use Rattle.std.specs.Prelude.{List, [], ◌∷◌, ℕ, length, Option, Some, None}
 use Rattle.record.specs.declared.Rule.{Rule}
 use Rattle.record.specs.declared.Rule.TheVariants.{New, Old}
 use Rattle.record.specs.declared.Column.{Column}
@@ -10,16 +10,12 @@ use Rattle.record.specs.declared.Part.{Part}
 use Rattle.record.specs.declared.Hold.{Hold}
 use Rattle.record.specs.Filler.{no_column, no_part, no_hold, padded}
 use Rattle.text.specs.Token.{Token}
-use Rattle.items.specs.Grammar.{Parsed, got, none, ◌and_then◌, open?, close?, run?, head?, named, number?, nth, last_numbers?, several?}
+use Rattle.items.specs.Grammar.{Parsed, got, ◌and_then◌, open?, close?, run?, head?, named, behind?, number?, nth, last_numbers?, several?}
 use Rattle.parts.specs.Shape.{part?}
 use Rattle.forms.specs.declared.RuleWord.{RuleWord}
 use Rattle.forms.specs.declared.RuleWord.TheVariants.{NewWord, OldWord}
-use Rattle.forms.specs.declared.RuleNamed.{RuleNamed}
-use Rattle.forms.specs.declared.RuleNamed.TheVariants.{Under, NoRule}
-use Rattle.forms.specs.declared.ModeNamed.{ModeNamed}
-use Rattle.forms.specs.declared.ModeNamed.TheVariants.{As, NoMode}
 use Rattle.forms.specs.declared.FormWord.{FormWord}
-use Rattle.forms.specs.declared.FormWord.TheVariants.{ShipWord, ColumnWord, LoadWord, HoldWord, DropWord, JudgeWord, ClearWord, NoWord}
+use Rattle.forms.specs.declared.FormWord.TheVariants.{ShipWord, ColumnWord, LoadWord, HoldWord, DropWord, JudgeWord, ClearWord}
 use Rattle.forms.specs.declared.Kind.{Kind}
 use Rattle.forms.specs.declared.Kind.TheVariants.{ShipLine, ColumnLine, LoadLine, HoldLine, DropLine, JudgeLine, ClearLine}
 use Rattle.forms.specs.declared.Request.{Request}
@@ -35,8 +31,8 @@ abbrev pub hold_request : ℕ → Hold → Request
 hold_request n h = record { kind = HoldLine n; hold = h; column = no_column }
 
 -- `RULE EDGE FLOOD)` behind `(ship`
-abbrev pub rule_named : List ℕ → RuleNamed
-rule_named r = named (("new", Under NewWord) ∷ ("old", Under OldWord) ∷ []) NoRule r
+abbrev pub rule_named : List ℕ → Option RuleWord
+rule_named r = named (("new", Some NewWord) ∷ ("old", Some OldWord) ∷ []) None r
 
 abbrev pub rule_of : RuleWord → ℕ → Rule
 rule_of NewWord edge = New edge
@@ -45,12 +41,11 @@ rule_of OldWord edge = Old edge
 abbrev pub ship_request : RuleWord → List ℕ → Request
 ship_request w v = plain (ShipLine (record { rule = rule_of w (nth v 0); flood = nth v 1 }))
 
-abbrev pub ship_by : RuleNamed → List Token → Parsed Request
-ship_by (Under w) ts = last_numbers? 2 ts and_then λ v us. got (ship_request w v) us
-ship_by NoRule ts = none
+abbrev pub ship_by : RuleWord → List Token → Parsed Request
+ship_by w ts = last_numbers? 2 ts and_then λ v us. got (ship_request w v) us
 
 unfoldable pub ship? : List Token → Parsed Request
-ship? ts = run? ts and_then λ r us. ship_by (rule_named r) us
+ship? ts = run? ts and_then λ r us. behind? ship_by (rule_named r) us
 
 -- `D KM (K .. K))` behind `(column`
 unfoldable pub column? : List Token → Parsed Request
@@ -82,18 +77,14 @@ parts? n mode ts =
     got (hold_request n (hold_record mode factor ps)) ws
 
 -- `N MODE ..` behind `(hold`
-abbrev pub mode_named : List ℕ → ModeNamed
-mode_named r = named (("trimmed", As Trimmed) ∷ ("voided", As Voided) ∷ ("partial", As Partial) ∷ []) NoMode r
-
-abbrev pub parts_by : ℕ → ModeNamed → List Token → Parsed Request
-parts_by n (As mode) ts = parts? n mode ts
-parts_by n NoMode ts = none
+abbrev pub mode_named : List ℕ → Option Mode
+mode_named r = named (("trimmed", Some Trimmed) ∷ ("voided", Some Voided) ∷ ("partial", Some Partial) ∷ []) None r
 
 unfoldable pub hold? : List Token → Parsed Request
 hold? ts =
     number? ts and_then λ n us.
     run? us and_then λ r ws.
-    parts_by n (mode_named r) ws
+    behind? (parts? n) (mode_named r) ws
 
 -- `N)` behind `(drop`
 unfoldable pub drop? : List Token → Parsed Request
@@ -104,18 +95,18 @@ unfoldable pub bare? : Kind → List Token → Parsed Request
 bare? k ts = close? ts and_then λ u us. got (plain k) us
 
 -- a form of document 01, by its first word: its word, and the shape of what stands behind it
-abbrev pub form_word : List ℕ → FormWord
+abbrev pub form_word : List ℕ → Option FormWord
 form_word r =
     named
-    (("ship", ShipWord)
-    ∷ ("column", ColumnWord)
-    ∷ ("load", LoadWord)
-    ∷ ("hold", HoldWord)
-    ∷ ("drop", DropWord)
-    ∷ ("judge", JudgeWord)
-    ∷ ("clear", ClearWord)
+    (("ship", Some ShipWord)
+    ∷ ("column", Some ColumnWord)
+    ∷ ("load", Some LoadWord)
+    ∷ ("hold", Some HoldWord)
+    ∷ ("drop", Some DropWord)
+    ∷ ("judge", Some JudgeWord)
+    ∷ ("clear", Some ClearWord)
     ∷ [])
-    NoWord
+    None
     r
 
 abbrev pub form_by : FormWord → List Token → Parsed Request
@@ -126,7 +117,6 @@ form_by HoldWord ts = hold? ts
 form_by DropWord ts = drop? ts
 form_by JudgeWord ts = bare? JudgeLine ts
 form_by ClearWord ts = bare? ClearLine ts
-form_by NoWord ts = none
 
 unfoldable pub form? : List Token → Parsed Request
-form? ts = head? ts and_then λ r us. form_by (form_word r) us
+form? ts = head? ts and_then λ r us. behind? form_by (form_word r) us

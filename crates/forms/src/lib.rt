@@ -1,15 +1,13 @@
 // The shapes of document 01's forms, each with its record.
 #![tactic(auto)]
 
-ghost use Rattle.std.specs.Prelude.{◌≡◌, ◌≤◌, length, drop};
+ghost use Rattle.std.specs.Prelude.{◌≡◌};
 ghost use Rattle.text.specs.Token.{tokens};
 ghost use Rattle.items.specs.Carried.{carry};
-ghost use Rattle.items.specs.Places.{Ends};
-ghost use Rattle.forms.specs.Shape.{rule_named, rule_of, ship?, column?, load?, mode_named, parts?, hold?, drop?, bare?, form_word, form_by};
-ghost use Rattle.forms.specs.Shape.{plain};
+ghost use Rattle.items.specs.Reads.{read_of};
+ghost use Rattle.forms.specs.Shape.{plain, rule_named, rule_of, ship?, column?, load?, mode_named, parts?, hold?, drop?, bare?, form_word, form_by};
 ghost use Rattle.forms.specs.Carried.{carried_request};
 
-use items::{Item, Place, Size, Span};
 use record::{Column, Head, Hold, Load, Mode, Rule, Ship, Weighing};
 
 // Which form a line is. A hold's and a column's record stand beside it: an enum that holds an array is not covered by the
@@ -43,19 +41,6 @@ pub enum RuleWord {
     OldWord,
 }
 
-#[derive(Clone, Copy)]
-pub enum RuleNamed {
-    Under(RuleWord),
-    NoRule,
-}
-
-// A mode, where its word was read.
-#[derive(Clone, Copy)]
-pub enum ModeNamed {
-    As(Mode),
-    NoMode,
-}
-
 // The word of a form.
 #[derive(Clone, Copy)]
 pub enum FormWord {
@@ -66,14 +51,6 @@ pub enum FormWord {
     DropWord,
     JudgeWord,
     ClearWord,
-    NoWord,
-}
-
-// A form's request, and the place behind the form.
-#[derive(Clone, Copy)]
-pub struct Form {
-    pub request: Request,
-    pub end: Place,
 }
 
 // ---- ships, loads, drops, columns
@@ -89,28 +66,18 @@ pub fn plain(kind: Kind) -> Request
     }
 }
 
-// Where no form was read.
-pub fn no_form() -> Form
-    ensures request_value { result.request ≡ plain Kind.NoShape }
-    ensures end_value { result.end ≡ Place.Nowhere }
-{
-    Form {
-        request: plain(Kind::NoShape),
-        end: Place::Nowhere,
-    }
-}
-
 // The word of a rule.
-fn rule_named(word: &[u8]) -> RuleNamed
+#[tactic(auto, using(items::proofs::Words::named_here, items::proofs::Words::named_past, items::proofs::Words::named_none))]
+fn rule_named(word: &[u8]) -> Option<RuleWord>
     ensures { result ≡ rule_named word.now }
 {
-    if text::same(word, b"new") {
-        return RuleNamed::Under(RuleWord::NewWord);
+    if word == b"new".as_slice() {
+        return Some(RuleWord::NewWord);
     }
-    if text::same(word, b"old") {
-        return RuleNamed::Under(RuleWord::OldWord);
+    if word == b"old".as_slice() {
+        return Some(RuleWord::OldWord);
     }
-    RuleNamed::NoRule
+    None
 }
 
 // The rule that its word and its edge make.
@@ -124,213 +91,145 @@ fn rule_of(word: RuleWord, edge: u16) -> Rule
 }
 
 // `RULE EDGE FLOOD)`
-fn ship_at(s: &[u8], at: usize) -> Form
-    requires { at ≤ length s.now }
-    ensures { Ends (carry carried_request (ship? (tokens (drop at s.now)))) s.now result.request result.end }
+fn ship<'a>(s: &'a [u8]) -> Option<(Request, &'a [u8])>
+    ensures { carry carried_request (ship? (tokens s.now)) ≡ read_of result }
 {
-    let Span::From(a, q) = items::span_at(s, at) else {
-        return no_form();
-    };
-    let RuleNamed::Under(word) = rule_named(text::run_of(s, a, q)) else {
-        return no_form();
-    };
-    let t = items::sizes_at(s, q, 2);
-    let end = t.end;
-    let v = t.values;
+    let (word, rest) = items::run(s)?;
+    let word = rule_named(word)?;
+    let ([edge, flood], rest) = items::last_sizes::<2>(rest)?;
     let ship = Ship {
-        rule: rule_of(word, v[0]),
-        flood: v[1],
+        rule: rule_of(word, edge),
+        flood,
     };
-    Form {
-        request: plain(Kind::ShipLine(ship)),
-        end,
-    }
+    Some((plain(Kind::ShipLine(ship)), rest))
 }
 
 // `D KG FS)`
-fn load_at(s: &[u8], at: usize) -> Form
-    requires { at ≤ length s.now }
-    ensures { Ends (carry carried_request (load? (tokens (drop at s.now)))) s.now result.request result.end }
+fn load<'a>(s: &'a [u8]) -> Option<(Request, &'a [u8])>
+    ensures { carry carried_request (load? (tokens s.now)) ≡ read_of result }
 {
-    let Item::Value(d, q) = items::number_at(s, at) else {
-        return no_form();
-    };
-    let t = items::sizes_at(s, q, 2);
-    let end = t.end;
-    let v = t.values;
-    let load = Load {
-        d,
-        kg: v[0],
-        fs: v[1],
-    };
-    Form {
-        request: plain(Kind::LoadLine(load)),
-        end,
-    }
+    let (d, rest) = items::number(s)?;
+    let ([kg, fs], rest) = items::last_sizes::<2>(rest)?;
+    Some((plain(Kind::LoadLine(Load { d, kg, fs })), rest))
 }
 
 // `N)`
-fn drop_at(s: &[u8], at: usize) -> Form
-    requires { at ≤ length s.now }
-    ensures { Ends (carry carried_request (drop? (tokens (drop at s.now)))) s.now result.request result.end }
+fn drop<'a>(s: &'a [u8]) -> Option<(Request, &'a [u8])>
+    ensures { carry carried_request (drop? (tokens s.now)) ≡ read_of result }
 {
-    let Item::Value(n, q) = items::number_at(s, at) else {
-        return no_form();
-    };
-    let end = items::close_at(s, q);
-    Form {
-        request: plain(Kind::DropLine(n)),
-        end,
-    }
+    let (n, rest) = items::number(s)?;
+    let rest = items::close(rest)?;
+    Some((plain(Kind::DropLine(n)), rest))
 }
 
 // `)`
-pub fn bare_at(s: &[u8], at: usize, kind: Kind) -> Form
-    requires { at ≤ length s.now }
-    ensures { Ends (bare? kind (tokens (drop at s.now))) s.now result.request result.end }
+pub fn bare<'a>(kind: Kind, s: &'a [u8]) -> Option<(Request, &'a [u8])>
+    ensures { bare? kind (tokens s.now) ≡ read_of result }
 {
-    let end = items::close_at(s, at);
-    Form {
-        request: plain(kind),
-        end,
-    }
+    let rest = items::close(s)?;
+    Some((plain(kind), rest))
 }
 
 // `D KM (K .. K))`
-fn column_at(s: &[u8], at: usize) -> Form
-    requires { at ≤ length s.now }
-    ensures { Ends (carry carried_request (column? (tokens (drop at s.now)))) s.now result.request result.end }
+fn column<'a>(s: &'a [u8]) -> Option<(Request, &'a [u8])>
+    ensures { carry carried_request (column? (tokens s.now)) ≡ read_of result }
 {
-    let Item::Value(d, p1) = items::number_at(s, at) else {
-        return no_form();
-    };
-    let Size::Kept(km, p2) = items::size_at(s, p1) else {
-        return no_form();
-    };
-    let Place::At(p3) = items::open_at(s, p2) else {
-        return no_form();
-    };
-    let t = items::sizes_at(s, p3, 10);
-    let last = t.end;
-    let Place::At(p4) = last else {
-        return no_form();
-    };
-    let kn = t.values;
-    let end = items::close_at(s, p4);
-    let request = Request {
-        kind: Kind::ColumnLine,
-        hold: record::no_hold(),
-        column: Column { d, km, kn },
-    };
-    Form { request, end }
+    let (d, rest) = items::number(s)?;
+    let (km, rest) = items::size(rest)?;
+    let rest = items::open(rest)?;
+    let (kn, rest) = items::last_sizes::<10>(rest)?;
+    let rest = items::close(rest)?;
+    let mut request = plain(Kind::ColumnLine);
+    request.column = Column { d, km, kn };
+    Some((request, rest))
 }
 
 // ---- a hold
 
 // `SF PART ..)`
-fn parts_at(s: &[u8], at: usize, n: u32, mode: Mode) -> Form
-    requires { at ≤ length s.now }
-    ensures { Ends (carry carried_request (parts? n mode (tokens (drop at s.now)))) s.now result.request result.end }
+fn parts<'a>(n: u32, mode: Mode, s: &'a [u8]) -> Option<(Request, &'a [u8])>
+    ensures { carry carried_request (parts? n mode (tokens s.now)) ≡ read_of result }
 {
-    let Size::Kept(factor, q) = items::size_at(s, at) else {
-        return no_form();
-    };
-    let t = parts::part_list_at(s, q, mode);
-    let count = t.count;
-    if count == 0 {
-        return no_form();
-    }
-    let end = t.end;
-    let parts = t.parts;
-    let head = Head {
+    let (factor, rest) = items::size(s)?;
+    let mut request = plain(Kind::HoldLine(n));
+    let (count, rest) = items::several(rest, &mut request.hold.parts, |t| parts::part(mode, t))?;
+    request.hold.head = Head {
         mode,
         factor,
-        count,
+        count: count as u8,
     };
-    let request = Request {
-        kind: Kind::HoldLine(n),
-        hold: Hold { head, parts },
-        column: record::no_column(),
-    };
-    Form { request, end }
+    Some((request, rest))
 }
 
 // The word of a mode.
-fn mode_named(word: &[u8]) -> ModeNamed
+#[tactic(auto, using(items::proofs::Words::named_here, items::proofs::Words::named_past, items::proofs::Words::named_none))]
+fn mode_named(word: &[u8]) -> Option<Mode>
     ensures { result ≡ mode_named word.now }
 {
-    if text::same(word, b"trimmed") {
-        return ModeNamed::As(Mode::Trimmed);
+    if word == b"trimmed".as_slice() {
+        return Some(Mode::Trimmed);
     }
-    if text::same(word, b"voided") {
-        return ModeNamed::As(Mode::Voided);
+    if word == b"voided".as_slice() {
+        return Some(Mode::Voided);
     }
-    if text::same(word, b"partial") {
-        return ModeNamed::As(Mode::Partial);
+    if word == b"partial".as_slice() {
+        return Some(Mode::Partial);
     }
-    ModeNamed::NoMode
+    None
 }
 
 // `N MODE SF PART ..)`
-fn hold_at(s: &[u8], at: usize) -> Form
-    requires { at ≤ length s.now }
-    ensures { Ends (carry carried_request (hold? (tokens (drop at s.now)))) s.now result.request result.end }
+fn hold<'a>(s: &'a [u8]) -> Option<(Request, &'a [u8])>
+    ensures { carry carried_request (hold? (tokens s.now)) ≡ read_of result }
 {
-    let Item::Value(n, p) = items::number_at(s, at) else {
-        return no_form();
-    };
-    let Span::From(a, q) = items::span_at(s, p) else {
-        return no_form();
-    };
-    let ModeNamed::As(mode) = mode_named(text::run_of(s, a, q)) else {
-        return no_form();
-    };
-    parts_at(s, q, n, mode)
+    let (n, rest) = items::number(s)?;
+    let (word, rest) = items::run(rest)?;
+    let mode = mode_named(word)?;
+    parts(n, mode, rest)
 }
 
 // ---- a form by its word
 
 // The word of a form.
-pub fn form_word(word: &[u8]) -> FormWord
+#[tactic(auto, using(items::proofs::Words::named_here, items::proofs::Words::named_past, items::proofs::Words::named_none))]
+pub fn form_word(word: &[u8]) -> Option<FormWord>
     ensures { result ≡ form_word word.now }
 {
-    if text::same(word, b"ship") {
-        return FormWord::ShipWord;
+    if word == b"ship".as_slice() {
+        return Some(FormWord::ShipWord);
     }
-    if text::same(word, b"column") {
-        return FormWord::ColumnWord;
+    if word == b"column".as_slice() {
+        return Some(FormWord::ColumnWord);
     }
-    if text::same(word, b"load") {
-        return FormWord::LoadWord;
+    if word == b"load".as_slice() {
+        return Some(FormWord::LoadWord);
     }
-    if text::same(word, b"hold") {
-        return FormWord::HoldWord;
+    if word == b"hold".as_slice() {
+        return Some(FormWord::HoldWord);
     }
-    if text::same(word, b"drop") {
-        return FormWord::DropWord;
+    if word == b"drop".as_slice() {
+        return Some(FormWord::DropWord);
     }
-    if text::same(word, b"judge") {
-        return FormWord::JudgeWord;
+    if word == b"judge".as_slice() {
+        return Some(FormWord::JudgeWord);
     }
-    if text::same(word, b"clear") {
-        return FormWord::ClearWord;
+    if word == b"clear".as_slice() {
+        return Some(FormWord::ClearWord);
     }
-    FormWord::NoWord
+    None
 }
 
 // What stands behind a form's word.
-pub fn form_by(s: &[u8], at: usize, word: FormWord) -> Form
-    requires { at ≤ length s.now }
-    ensures { Ends (carry carried_request (form_by word (tokens (drop at s.now)))) s.now result.request result.end }
+pub fn form_by<'a>(word: FormWord, s: &'a [u8]) -> Option<(Request, &'a [u8])>
+    ensures { carry carried_request (form_by word (tokens s.now)) ≡ read_of result }
 {
     match word {
-        FormWord::ShipWord => ship_at(s, at),
-        FormWord::ColumnWord => column_at(s, at),
-        FormWord::LoadWord => load_at(s, at),
-        FormWord::HoldWord => hold_at(s, at),
-        FormWord::DropWord => drop_at(s, at),
-        FormWord::JudgeWord => bare_at(s, at, Kind::JudgeLine),
-        FormWord::ClearWord => bare_at(s, at, Kind::ClearLine),
-        FormWord::NoWord => no_form(),
+        FormWord::ShipWord => ship(s),
+        FormWord::ColumnWord => column(s),
+        FormWord::LoadWord => load(s),
+        FormWord::HoldWord => hold(s),
+        FormWord::DropWord => drop(s),
+        FormWord::JudgeWord => bare(Kind::JudgeLine, s),
+        FormWord::ClearWord => bare(Kind::ClearLine, s),
     }
 }

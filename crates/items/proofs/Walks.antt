@@ -4,14 +4,12 @@ use mathlib.Core.Bool.{true, false}
 use mathlib.Core.List.{List, [], ◌∷◌, ◌++◌, map, append-nil}
 use Prim.Native.Nat.{ℕ, zero, suc, ◌-◌, ◌<◌}
 use native.Mathlib.Omega.{arith}
-use lib.ListN.{get_or, take, drop, get_or-map}
+use lib.ListN.{length, get_or, take, get_or-map}
 use lib.Seq.{append_snoc, get_or-take}
-use Rattle.text.specs.Token.{Token, tokens}
-use Rattle.items.specs.declared.Place.{Place}
-use Rattle.items.specs.declared.Place.TheVariants.{At, Nowhere}
-use Rattle.items.specs.Grammar.{Parsed, got, none, ◌and_then◌, close?, number?, nth, numbers?, last_numbers?, items?, whole?}
+use Rattle.text.specs.Token.{Token}
+use Rattle.items.specs.Grammar.{Parsed, got, none, ◌and_then◌, close?, number?, nth, numbers?, last_numbers?, or_else, items?, some_of, several?, whole?}
 use Rattle.items.specs.Carried.{carry, carried}
-use Rattle.items.specs.Places.{Ends, is_end}
+use Rattle.items.specs.Reads.{is_end}
 
 -- what was read, in front of what is read behind it
 abbrev pub ahead : {A : Type 0} → List A → Parsed (List A) → Parsed (List A)
@@ -68,11 +66,13 @@ module _ (k : ℕ) (ts : List Token) where
       go (suc k) h = let a : suc k - 1 ≡ k = omega arith in sizes_suc k ts ∙ rw (e, a)
 
 -- the closing bracket behind the last of them
-pub sizes_end : (s : List ℕ) (q k : ℕ) (vs : List ℕ) (p : Parsed (List ℕ)) (e : Place) → k ≡ 0 → p ≡ ahead vs (sizes k (tokens (drop q s))) →
-    Ends (close? (tokens (drop q s))) s tt e → Ends p s vs e
+pub sizes_last : (ts : List Token) → sizes 0 ts ≡ carry (λ u. []) (close? ts)
 unfolding last_numbers? numbers?
-sizes_end s q k vs p (At r) z g (f, b) = (g ∙ rw (z, f) (ahead_end vs (tokens (drop r s))), b)
-sizes_end s q k vs p Nowhere z g f = g ∙ rw (z, f)
+sizes_last ts = by (close? ts)
+  where
+    by : (c : Parsed (Unit {0})) → carry (map carried) (c and_then λ u ws. got [] ws) ≡ carry (λ u. []) c
+    by (got u ws) = refl
+    by none = refl
 
 -- ---- what was read, and what it is carried as
 abbrev value_or : {A : Type 0} → A → Parsed A → A
@@ -101,64 +101,98 @@ module _ {A B : Type 0} (f : A → B) where
   carries_none (got a us) e = let z : ◌≡◌ {A = ℕ} 1 0 = ap is_got e in absurd (omega arith)
   carries_none none e = refl
 
-pub ends_next : {A R : Type 0} (mk : A → R) (p : Parsed A) (s : List ℕ) (b : R) (a : A) (e : Place) → Ends p s a e → mk a ≡ b → Ends (p and_then λ x us. got (mk x) us) s b e
-ends_next mk p s b a (At q) h k = (rw (h.0, k), h.1)
-ends_next mk p s b a Nowhere h k = rw h
-
 -- a record made of the last thing that was read
-module _ {A R S : Type 0} (f : R → S) (mk : A → R) (p : Parsed A) (s : List ℕ) (b : S) where
-  pub ends_after : (a : A) (e : Place) → Ends p s a e → f (mk a) ≡ b → Ends (carry f (p and_then λ x us. got (mk x) us)) s b e
-  ends_after a (At q) h k = (rw (h.0, k), h.1)
-  ends_after a Nowhere h k = rw h
+module _ {A C R S : Type 0} (f : R → S) (mk : A → R) (g : A → C) (p : Parsed A) where
+  pub built : (y : C) (us : List Token) (b : S) → carry g p ≡ got y us → ((x : A) → y ≡ g x → f (mk x) ≡ b) →
+      carry f (p and_then λ x us. got (mk x) us) ≡ got b us
+  built y us b e k = let i = carries g p y us e in rw (i.is, k i.read i.kept)
 
-  pub ends_built : {C : Type 0} (g : A → C) (y : C) (e : Place) → Ends (carry g p) s y e → ((x : A) → y ≡ g x → f (mk x) ≡ b) →
-      Ends (carry f (p and_then λ x us. got (mk x) us)) s b e
-  ends_built g y (At q) h k = let i = carries g p y (tokens (drop q s)) h.0 in (rw (i.is, k i.read i.kept), h.1)
-  ends_built g y Nowhere h k = rw (carries_none g p h)
+  pub unbuilt : carry g p ≡ none → carry f (p and_then λ x us. got (mk x) us) ≡ none
+  unbuilt e = rw (carries_none g p e)
 
-pub nth_kept : (k : ℕ) (vs x : List ℕ) (n : ℕ) → take k vs ≡ map carried x → n < k → carried (nth x n) ≡ get_or vs n 0
-nth_kept k vs x n e h = sym (get_or-map carried x n 0) ∙ ap (λ (l : List ℕ). get_or l n 0) (sym e) ∙ get_or-take k vs n 0 h
+pub nth_kept : (vs x : List ℕ) (n : ℕ) → vs ≡ map carried x → carried (nth x n) ≡ get_or vs n 0
+nth_kept vs x n e = sym (get_or-map carried x n 0) ∙ ap (λ (l : List ℕ). get_or l n 0) (sym e)
 
--- ---- the last items of a form, as they are carried
-module _ {A B : Type 0} (f : A → B) (item : List Token → Parsed A) where
-  abbrev pub kept_items : ℕ → List Token → Parsed (List B)
-  kept_items k ts = carry (map f) (items? k item ts)
+-- ---- the last items of a form
+module _ {A : Type 0} (item : List Token → Parsed A) where
+  in_front : (x : A) (q : Parsed (List A)) → (q and_then λ xs ws. got (x ∷ xs) ws) ≡ ahead (x ∷ []) q
+  in_front x (got xs ws) = refl
+  in_front x none = refl
 
-  one_more : (p : Parsed A) (k : ℕ) → carry (map f) (p and_then λ x us. items? k item us and_then λ xs ws. got (x ∷ xs) ws) ≡ (carry f p and_then λ x us. ahead (x ∷ []) (kept_items k us))
-  one_more none k = refl
-  one_more (got x us) k = behind (items? k item us)
-    where
-      behind : (q : Parsed (List A)) → carry (map f) (q and_then λ xs ws. got (x ∷ xs) ws) ≡ ahead (f x ∷ []) (carry (map f) q)
-      behind (got xs ws) = refl
-      behind none = refl
-
-  items_suc : (k : ℕ) (ts : List Token) → close? ts ≡ none → kept_items (suc k) ts ≡ (carry f (item ts) and_then λ x us. ahead (x ∷ []) (kept_items k us))
-  unfolding items?
-  items_suc k ts e = rw e (one_more (item ts) k)
-
-  pub items_closed : (k : ℕ) (ts us : List Token) → close? ts ≡ got tt us → kept_items k ts ≡ got [] us
+  pub items_closed : (k : ℕ) (ts us : List Token) → close? ts ≡ got tt us → items? k item ts ≡ got [] us
   unfolding items?
   items_closed zero ts us e = rw e
   items_closed (suc k) ts us e = rw e
 
-  pub items_full : (ts : List Token) → close? ts ≡ none → kept_items 0 ts ≡ none
+  pub items_full : (ts : List Token) → close? ts ≡ none → items? 0 item ts ≡ none
   unfolding items?
   items_full ts e = rw e
 
   module _ (k : ℕ) (ts : List Token) (more : close? ts ≡ none) where
-    pub items_stop : 0 < k → carry f (item ts) ≡ none → kept_items k ts ≡ none
+    pub items_stop : 0 < k → item ts ≡ none → items? k item ts ≡ none
+    unfolding items?
     items_stop h e = go k h
       where
-        go : (k : ℕ) → 0 < k → kept_items k ts ≡ none
+        go : (k : ℕ) → 0 < k → items? k item ts ≡ none
         go zero h = absurd (omega arith)
-        go (suc k) h = items_suc k ts more ∙ rw e
+        go (suc k) h = rw (more, e)
 
-    pub items_next : (x : B) (us : List Token) → 0 < k → carry f (item ts) ≡ got x us → kept_items k ts ≡ ahead (x ∷ []) (kept_items (k - 1) us)
+    pub items_next : (x : A) (us : List Token) → 0 < k → item ts ≡ got x us → items? k item ts ≡ ahead (x ∷ []) (items? (k - 1) item us)
+    unfolding items?
     items_next x us h e = go k h
       where
-        go : (k : ℕ) → 0 < k → kept_items k ts ≡ ahead (x ∷ []) (kept_items (k - 1) us)
+        go : (k : ℕ) → 0 < k → items? k item ts ≡ ahead (x ∷ []) (items? (k - 1) item us)
         go zero h = absurd (omega arith)
-        go (suc k) h = let a : suc k - 1 ≡ k = omega arith in items_suc k ts more ∙ rw (e, a)
+        go (suc k) h = let a : suc k - 1 ≡ k = omega arith in rw (more, e, a) (in_front x (items? k item us))
+
+pub some_more : {A : Type 0} (xs : List A) (ts : List Token) → 0 < length xs → some_of xs ts ≡ got xs ts
+some_more [] ts h = absurd (omega arith)
+some_more (x ∷ xs) ts h = refl
+
+-- items that are carried as they are read, or all of them behind the form
+module _ {A B : Type 0} (f : A → B) (item : List Token → Parsed A) where
+  abbrev pub kept : List Token → Parsed B
+  kept ts = carry f (item ts)
+
+  one_kept : (k : ℕ) → ((us : List Token) → items? k kept us ≡ carry (map f) (items? k item us)) → (c : Parsed (Unit {0})) (p : Parsed A) →
+      or_else (c and_then λ u us. got [] us) (carry f p and_then λ x us. items? k kept us and_then λ xs ws. got (x ∷ xs) ws)
+      ≡ carry (map f) (or_else (c and_then λ u us. got [] us) (p and_then λ x us. items? k item us and_then λ xs ws. got (x ∷ xs) ws))
+  one_kept k ih (got u us) p = refl
+  one_kept k ih none none = refl
+  one_kept k ih none (got x us) = rw (ih us) (behind (items? k item us))
+    where
+      behind : (q : Parsed (List A)) → (carry (map f) q and_then λ xs ws. got (f x ∷ xs) ws) ≡ carry (map f) (q and_then λ xs ws. got (x ∷ xs) ws)
+      behind (got xs ws) = refl
+      behind none = refl
+
+  pub items_kept : (k : ℕ) (ts : List Token) → items? k kept ts ≡ carry (map f) (items? k item ts)
+  unfolding items?
+  items_kept zero ts = by (close? ts)
+    where
+      empty : List Token → Parsed (List B)
+      empty us = got [] us
+
+      by : (c : Parsed (Unit {0})) → (c and_then λ u us. empty us) ≡ carry (map f) (c and_then λ u us. got [] us)
+      by (got u us) = refl
+      by none = refl
+  items_kept (suc k) ts = one_kept k (items_kept k) (close? ts) (item ts)
+
+  pub several_kept : (k : ℕ) (ts : List Token) → several? k kept ts ≡ carry (map f) (several? k item ts)
+  several_kept k ts = rw (items_kept k ts) (some (items? k item ts))
+    where
+      some : (p : Parsed (List A)) → (carry (map f) p and_then some_of) ≡ carry (map f) (p and_then some_of)
+      some (got [] us) = refl
+      some (got (x ∷ xs) us) = refl
+      some none = refl
+
+  -- a record made of several of them
+  module _ {R S : Type 0} (made : R → S) (mk : List A → R) (k : ℕ) (us : List Token) where
+    pub several_built : (ys : List B) (ws : List Token) (b : S) → several? k kept us ≡ got ys ws → ((xs : List A) → ys ≡ map f xs → made (mk xs) ≡ b) →
+        carry made (several? k item us and_then λ xs ws. got (mk xs) ws) ≡ got b ws
+    several_built ys ws b e = built made mk (map f) (several? k item us) ys ws b (sym (several_kept k us) ∙ e)
+
+    pub several_unbuilt : several? k kept us ≡ none → carry made (several? k item us and_then λ xs ws. got (mk xs) ws) ≡ none
+    several_unbuilt e = unbuilt made mk (map f) (several? k item us) (sym (several_kept k us) ∙ e)
 
 -- nothing stands behind the form
 pub whole_end : {A : Type 0} (a other : A) (ts : List Token) → is_end ts ≡ true → whole? (got a ts) other ≡ a

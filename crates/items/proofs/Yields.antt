@@ -3,10 +3,11 @@ use mathlib.Core.Path.{◌≡◌, refl, ap}
 use mathlib.Core.Bool.{Bool, true, false, cond}
 use mathlib.Core.List.{List, [], ◌∷◌}
 use Prim.Native.Nat.{ℕ, zero, suc, ◌≤◌}
+use Rattle.std.specs.Prelude.{Option, Some, None}
 use native.Mathlib.Omega.{arith}
 use lib.ListN.{length}
 use Rattle.text.specs.Token.{Token}
-use Rattle.items.specs.Grammar.{Parsed, got, none, ◌and_then◌, close?, number?, numbers?, last_numbers?, or_else, items?, some_of, several?, whole?}
+use Rattle.items.specs.Grammar.{Parsed, got, none, ◌and_then◌, behind?, close?, number?, numbers?, last_numbers?, or_else, items?, some_of, several?, whole?}
 
 pub data Yields {A : Type 0} (P : A → Type 0) : Parsed A → Type 0 where
   yields : {a : A} {ts : List Token} → P a → Yields P (got a ts)
@@ -29,6 +30,10 @@ module _ {A : Type 0} {P : A → Type 0} where
   pub yields_if : (x : Bool) {r s : Parsed A} → Yields P r → Yields P s → Yields P (cond x r s)
   yields_if true p q = p
   yields_if false p q = q
+
+pub yields_behind : {W A : Type 0} {P : A → Type 0} {f : W → List Token → Parsed A} (w : Option W) → ((w : W) (ts : List Token) → Yields P (f w ts)) → (ts : List Token) → Yields P (behind? f w ts)
+yields_behind (Some w) h ts = h w ts
+yields_behind None h ts = nothing
 
 pub yields_whole : {A : Type 0} (P : A → Type 0) (other : A) {r : Parsed A} → Yields P r → P other → P (whole? r other)
 yields_whole P other (yields {ts = []} p) q = p

@@ -1,9 +1,7 @@
 -- Reading a shape from the front of a list of tokens: what was read, and the tokens behind it.
-use Rattle.std.specs.Prelude.{Bool, cond, List, [], ◌∷◌, ℕ, zero, suc, get_or}
+use Rattle.std.specs.Prelude.{Bool, cond, List, [], ◌∷◌, ℕ, zero, suc, get_or, Option, Some, None}
 use Prim.Native.String.{String}
 use Rattle.whole.specs.Bytes.{bytes}
-use Rattle.text.specs.declared.Number.{Number}
-use Rattle.text.specs.declared.Number.TheVariants.{Is, Bad}
 use Rattle.text.specs.Token.{Token, opened, closed, run, number_of, same}
 
 pub data Parsed (A : Type 0) : Type 0 where
@@ -49,13 +47,14 @@ unfoldable pub named : {A : Type 0} → List (String × A) → A → List ℕ �
 named [] other r = other
 named ((w, a) ∷ table) other r = cond (is r w) a (named table other r)
 
-abbrev pub got_number : Number → List Token → Parsed ℕ
-got_number (Is v) ts = got v ts
-got_number Bad ts = none
+-- what stands behind a word, by what the word stands for, if anything
+abbrev pub behind? : {W A : Type 0} → (W → List Token → Parsed A) → Option W → List Token → Parsed A
+behind? shape (Some w) ts = shape w ts
+behind? shape None ts = none
 
 -- a number
 unfoldable pub number? : List Token → Parsed ℕ
-number? ts = run? ts and_then λ r us. got_number (number_of r) us
+number? ts = run? ts and_then λ r us. behind? got (number_of r) us
 
 -- k numbers
 unfoldable pub numbers? : ℕ → List Token → Parsed (List ℕ)

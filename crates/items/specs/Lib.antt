@@ -1,3 +1,3 @@
 pub mod Grammar
 pub mod Carried
-pub mod Places
+pub mod Reads

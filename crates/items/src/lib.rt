@@ -1,167 +1,119 @@
-// Brackets, runs and numbers of a line, each from a place to the place behind it.
+// Brackets, runs and numbers at the front of what is left of a line, each with what is left behind it.
 #![tactic(auto)]
 
-ghost use Rattle.std.specs.Prelude.{◌≡◌, map, ◌≤◌, length, take, drop};
-ghost use Rattle.text.specs.Token.{tokens};
-ghost use Rattle.items.specs.Grammar.{open?, close?, run?, head?, number?, last_numbers?};
+ghost use Rattle.std.specs.Prelude.{◌≡◌, map, ◌≤◌, length, IfSome, List};
+ghost use Rattle.text.specs.Token.{Token, tokens};
+ghost use Rattle.items.specs.Grammar.{Parsed, open?, close?, run?, head?, number?, last_numbers?, several?};
 ghost use Rattle.items.specs.Carried.{carry, carried};
-ghost use Rattle.items.specs.Places.{is_end, Ends, PlaceIs, SpanIs, ItemIs, SizeIs};
+ghost use Rattle.items.specs.Reads.{is_end, passed_of, run_of, read_of, ReadsBy, Fills};
 
-use text::{Next, Number};
-
-// The place behind what was looked for.
-#[derive(Clone, Copy)]
-pub enum Place {
-    At(usize),
-    Nowhere,
-}
-
-// A run, from a place to a place.
-#[derive(Clone, Copy)]
-pub enum Span {
-    From(usize, usize),
-    NoRun,
-}
-
-// A number, and the place behind it.
-#[derive(Clone, Copy)]
-pub enum Item {
-    Value(u32, usize),
-    NoValue,
-}
-
-// A number as its field carries it, and the place behind it.
-#[derive(Clone, Copy)]
-pub enum Size {
-    Kept(u16, usize),
-    NoSize,
-}
-
-// The last numbers of a form, and the place behind its closing bracket.
-#[derive(Clone, Copy)]
-pub struct Sizes {
-    pub values: [u16; 10],
-    pub end: Place,
-}
+use text::Piece;
 
 // An opening bracket.
-pub fn open_at(s: &[u8], at: usize) -> Place
-    requires { at ≤ length s.now }
-    ensures { PlaceIs (open? (tokens (drop at s.now))) s.now result }
+pub fn open<'a>(s: &'a [u8]) -> Option<&'a [u8]>
+    ensures { open? (tokens s.now) ≡ passed_of result }
 {
-    let t = text::next_at(s, at);
-    match t {
-        Next::Open(q) => Place::At(q),
-        Next::Close(_) => Place::Nowhere,
-        Next::Run(_, _) => Place::Nowhere,
-        Next::End => Place::Nowhere,
+    match text::first_piece(s)? {
+        (Piece::Open, rest) => Some(rest),
+        _ => None,
     }
 }
 
 // A closing bracket.
-pub fn close_at(s: &[u8], at: usize) -> Place
-    requires { at ≤ length s.now }
-    ensures { PlaceIs (close? (tokens (drop at s.now))) s.now result }
+pub fn close<'a>(s: &'a [u8]) -> Option<&'a [u8]>
+    ensures { close? (tokens s.now) ≡ passed_of result }
 {
-    let t = text::next_at(s, at);
-    match t {
-        Next::Open(_) => Place::Nowhere,
-        Next::Close(q) => Place::At(q),
-        Next::Run(_, _) => Place::Nowhere,
-        Next::End => Place::Nowhere,
+    match text::first_piece(s)? {
+        (Piece::Close, rest) => Some(rest),
+        _ => None,
     }
 }
 
 // A run.
-pub fn span_at(s: &[u8], at: usize) -> Span
-    requires { at ≤ length s.now }
-    ensures { SpanIs (run? (tokens (drop at s.now))) s.now result }
+pub fn run<'a>(s: &'a [u8]) -> Option<(&'a [u8], &'a [u8])>
+    ensures { run? (tokens s.now) ≡ run_of result }
 {
-    let t = text::next_at(s, at);
-    match t {
-        Next::Open(_) => Span::NoRun,
-        Next::Close(_) => Span::NoRun,
-        Next::Run(a, q) => Span::From(a, q),
-        Next::End => Span::NoRun,
+    match text::first_piece(s)? {
+        (Piece::Run(word), rest) => Some((word, rest)),
+        _ => None,
     }
 }
 
 // A form's opening bracket and the run behind it.
-pub fn head_at(s: &[u8], at: usize) -> Span
-    requires { at ≤ length s.now }
-    ensures { SpanIs (head? (tokens (drop at s.now))) s.now result }
+pub fn head<'a>(s: &'a [u8]) -> Option<(&'a [u8], &'a [u8])>
+    ensures { head? (tokens s.now) ≡ run_of result }
 {
-    let Place::At(p) = open_at(s, at) else {
-        return Span::NoRun;
-    };
-    span_at(s, p)
+    let rest = open(s)?;
+    run(rest)
 }
 
 // A number.
-pub fn number_at(s: &[u8], at: usize) -> Item
-    requires { at ≤ length s.now }
-    ensures { ItemIs (number? (tokens (drop at s.now))) s.now result }
+pub fn number<'a>(s: &'a [u8]) -> Option<(u32, &'a [u8])>
+    ensures { number? (tokens s.now) ≡ read_of result }
 {
-    let Span::From(a, q) = span_at(s, at) else {
-        return Item::NoValue;
-    };
-    let Number::Is(v) = text::number_of(text::run_of(s, a, q)) else {
-        return Item::NoValue;
-    };
-    Item::Value(v, q)
+    let (word, rest) = run(s)?;
+    let v = text::number_of(word)?;
+    Some((v, rest))
 }
 
 // A number above 65,535 is carried as 65,535, which is above every limit too.
 fn as_field(v: u32) -> u16
     ensures { result ≡ carried v }
 {
-    if v <= 65535 { v as u16 } else { 65535 }
+    v.min(65535) as u16
 }
 
 // A number as its field carries it.
-pub fn size_at(s: &[u8], at: usize) -> Size
-    requires { at ≤ length s.now }
-    ensures { SizeIs (carry carried (number? (tokens (drop at s.now)))) s.now result }
+pub fn size<'a>(s: &'a [u8]) -> Option<(u16, &'a [u8])>
+    ensures { carry carried (number? (tokens s.now)) ≡ read_of result }
 {
-    let Item::Value(v, q) = number_at(s, at) else {
-        return Size::NoSize;
-    };
-    Size::Kept(as_field(v), q)
+    let (v, rest) = number(s)?;
+    Some((as_field(v), rest))
 }
 
-// The last `want` numbers of a form, and its closing bracket.
-pub fn sizes_at(s: &[u8], at: usize, want: usize) -> Sizes
-    requires { (at ≤ length s.now) × (want ≤ 10) }
-    ensures { Ends (carry (map carried) (last_numbers? want (tokens (drop at s.now)))) s.now (take want result.values) result.end }
+// The last numbers of a form, and its closing bracket.
+pub fn last_sizes<'a, const N: usize>(s: &'a [u8]) -> Option<([u16; N], &'a [u8])>
+    ensures { carry (map carried) (last_numbers? N (tokens s.now)) ≡ read_of result }
 {
-    let mut values = [0u16; 10];
-    let mut p = at;
-    let mut i = 0;
-    while i < want {
-        let Size::Kept(v, q) = size_at(s, p) else {
-            return Sizes {
-                values,
-                end: Place::Nowhere,
-            };
-        };
+    let mut values = [0u16; N];
+    let mut rest = s;
+    for i in 0..N {
+        let (v, behind) = size(rest)?;
         values[i] = v;
-        p = q;
-        i += 1;
+        rest = behind;
     }
-    let end = close_at(s, p);
-    Sizes { values, end }
+    Some((values, close(rest)?))
 }
 
-// Whether no token stands from `at` on.
-pub fn ends_at(s: &[u8], at: usize) -> bool
-    requires { at ≤ length s.now }
-    ensures { result ≡ is_end (tokens (drop at s.now)) }
+// The last items of a form, at least one and at most as many as there are places, and its closing bracket: how many there are, each in its place.
+pub fn several<'a, T: Copy, F: Fn(&'a [u8]) -> Option<(T, &'a [u8])>>(
+    s: &'a [u8],
+    places: &mut [T],
+    item: F,
+) -> Option<(usize, &'a [u8])>
+    requires { F.IsAlwaysCallable item }
+    ensures count { IfSome result (λ r. r.0 ≤ length places.old) }
+    ensures filled { (item? : List Token → Parsed T) → ReadsBy (F.post item) item? → Fills (several? (length places.old) item? (tokens s.now)) places.old places.new result }
 {
-    let t = text::next_at(s, at);
-    match t {
-        Next::Open(_) => false,
-        Next::Close(_) => false,
-        Next::Run(_, _) => false,
-        Next::End => true,
+    let mut rest = s;
+    let mut n = 0;
+    while n < places.len() && close(rest).is_none() {
+        let (x, behind) = item(rest)?;
+        places[n] = x;
+        rest = behind;
+        n += 1;
     }
+    let behind = close(rest)?;
+    if n == 0 {
+        return None;
+    }
+    Some((n, behind))
+}
+
+// Whether no token is left.
+#[tactic(auto, unfolding(crate::specs::Reads::is_end))]
+pub fn is_end(s: &[u8]) -> bool
+    ensures { result ≡ is_end (tokens s.now) }
+{
+    text::first_piece(s).is_none()
 }

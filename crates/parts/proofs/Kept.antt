@@ -1,7 +1,7 @@
 -- No test of a cell's or a part's limits sees how its numbers are carried, and a cell within its limits is carried as it is.
 use mathlib.Core.Path.{◌≡◌, refl, ap}
 use mathlib.Core.Bool.{Bool, true, false, ◌&&◌}
-use mathlib.Core.List.{List, [], ◌∷◌, map, map-map}
+use mathlib.Core.List.{List, [], ◌∷◌, map}
 use Prim.Native.Nat.{ℕ, zero, suc}
 use native.Mathlib.Omega.{arith}
 use lib.Dec.{leb}
@@ -17,7 +17,7 @@ use Rattle.record.specs.Held.{cell_width, cells_of}
 use Rattle.limits.specs.Limits.{cell_limits, section_limits, slack_limits, part_limits}
 use Rattle.items.specs.Carried.{carried}
 use Rattle.items.proofs.Kept.{kept_within, same_test, kept_last, same_all, kept_all}
-use Rattle.parts.specs.Carried.{carried_cell, carried_slot, carried_part}
+use Rattle.parts.specs.Carried.{carried_cell, carried_part}
 
 -- ---- a cell
 pub same_cell : (c : Cell) → cell_limits (carried_cell c) ≡ cell_limits c
@@ -52,9 +52,7 @@ take_map f (suc n) [] = refl
 take_map f (suc n) (x ∷ l) = rw (take_map f n l)
 
 carried_cells : (p : Part) → cells_of (carried_part p) ≡ map carried_cell (cells_of p)
-carried_cells p =
-    let l = take p.count p.cells in
-    rw (take_map carried_slot p.count p.cells, map-map (λ s. s.cell) carried_slot l, map-map carried_cell (λ s. s.cell) l)
+carried_cells p = take_map carried_cell p.count p.cells
 
 guarded : (a b c d : Bool) → (b ≡ true → c ≡ d) → (a && b && c) ≡ (a && b && d)
 guarded true true c d h = h refl
@@ -84,7 +82,7 @@ kept_section p e =
     let each = and_true (within 1 60000 p.length) (all cell_limits (cells_of p)) inside.0 in
     (kept_within 1 60000 p.length (omega arith) each.0, kept_all cell_limits carried_cell kept_cell (cells_of p) each.1)
 
-pub kept_slack : (p : Part) → slack_limits p ≡ true → map carried_slot p.cells ≡ p.cells → carried_part p ≡ p
+pub kept_slack : (p : Part) → slack_limits p ≡ true → map carried_cell p.cells ≡ p.cells → carried_part p ≡ p
 unfolding slack_limits
 kept_slack p e cells =
     let grain = kept_last _ _ _ _ refl e in

@@ -1,4 +1,3 @@
-pub mod Filling
 pub mod Records
 pub mod Kept
 pub mod Tidy

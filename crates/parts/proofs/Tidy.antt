@@ -1,26 +1,25 @@
 -- What the grammar of parts yields, said once for any property; and that a part that was read is carried as it is within its limits, since its
 -- unused fields are 0 and its unused places fillers.
-use mathlib.Core.Path.{◌≡◌, refl, sym, ◌∙◌}
+use mathlib.Core.Path.{◌≡◌, refl, ◌∙◌}
 use mathlib.Core.Bool.{Bool, true}
-use mathlib.Core.List.{List, [], ◌∷◌, map, map-map, map-id}
+use mathlib.Core.List.{List, [], ◌∷◌, map}
 use Prim.Native.Nat.{ℕ, ◌-◌, ◌≤◌}
-use lib.ListN.{length, take, replicate, length-map}
+use lib.ListN.{length, take, replicate}
 use lib.Seq.{take_at}
 use Rattle.whole.specs.Lists.{all}
 use Rattle.record.specs.declared.Cell.{Cell}
-use Rattle.record.specs.declared.Slot.{Slot}
 use Rattle.record.specs.declared.Mode.{Mode}
 use Rattle.record.specs.declared.Mode.TheVariants.{Trimmed, Voided, Partial}
 use Rattle.record.specs.declared.Part.{Part}
 use Rattle.record.specs.Held.{cells_of}
-use Rattle.record.specs.Filler.{no_slot, padded}
+use Rattle.record.specs.Filler.{no_cell, padded}
 use Rattle.limits.specs.Limits.{section_limits, slack_limits, part_limits}
 use Rattle.text.specs.Token.{Token}
 use Rattle.items.specs.Grammar.{head?, is, number?, last_numbers?}
 use Rattle.items.proofs.Kept.{kept_more}
 use Rattle.items.proofs.Yields.{Yields, yields, nothing, yields_with, yields_then, yields_if, anything, Each, several_yield}
 use Rattle.parts.specs.Shape.{section_record, slack_record, cell?, section?, slack?, body?, part?}
-use Rattle.parts.specs.Carried.{carried_cell, carried_slot, carried_part}
+use Rattle.parts.specs.Carried.{carried_cell, carried_part}
 use Rattle.parts.proofs.Records.{map_padded}
 use Rattle.parts.proofs.Kept.{kept_section, kept_slack}
 
@@ -56,23 +55,16 @@ kept_each f g [] p e = refl
 kept_each f g (x ∷ l) p e = kept_more f g x l p.0 (kept_each f g l p.1) e
 
 -- ---- a part of cells: the cells that its limits test are those that were read
-abbrev pub in_slot : Cell → Slot
-in_slot c = record { cell = c }
-
 pub section_cells : (v : ℕ) (cs : List Cell) → cells_of (section_record v cs) ≡ cs
-section_cells v cs =
-    rw (padded_front 8 no_slot (map in_slot cs) (length cs) (length-map cs in_slot), map-map (λ (s : Slot). s.cell) in_slot cs) (map-id cs)
-
-kept_slots : (cs : List Cell) → map carried_cell cs ≡ cs → map carried_slot (map in_slot cs) ≡ map in_slot cs
-kept_slots cs e = map-map carried_slot in_slot cs ∙ sym (map-map in_slot carried_cell cs) ∙ rw e
+section_cells v cs = padded_front 8 no_cell cs (length cs) refl
 
 section_stays : (v : ℕ) (cs : List Cell) → section_limits (section_record v cs) ≡ true → carried_part (section_record v cs) ≡ section_record v cs
 section_stays v cs e =
     let t = kept_section (section_record v cs) e in
-    rw (t.0, kept_padded carried_slot no_slot refl 8 (map in_slot cs) (kept_slots cs (rw (section_cells v cs) at t.1)))
+    rw (t.0, kept_padded carried_cell no_cell refl 8 cs (rw (section_cells v cs) at t.1))
 
 slack_stays : (v : List ℕ) → slack_limits (slack_record v) ≡ true → carried_part (slack_record v) ≡ slack_record v
-slack_stays v e = kept_slack (slack_record v) e (kept_padded carried_slot no_slot refl 8 [] refl)
+slack_stays v e = kept_slack (slack_record v) e (kept_padded carried_cell no_cell refl 8 [] refl)
 
 -- ---- a part that is read, by its mode
 abbrev pub KeptPart : Mode → Part → Type 0

@@ -3,7 +3,6 @@
 use Rattle.std.specs.Prelude.{map}
 use Rattle.record.specs.declared.Cell.{Cell}
 use Rattle.record.specs.declared.Cell.TheVariants.{Wing, Hatch, Void}
-use Rattle.record.specs.declared.Slot.{Slot}
 use Rattle.record.specs.declared.Part.{Part}
 use Rattle.items.specs.Carried.{carried}
 
@@ -11,12 +10,6 @@ abbrev pub carried_cell : Cell → Cell
 carried_cell (Wing w d g l) = Wing (carried w) (carried d) (carried g) (carried l)
 carried_cell (Hatch w o l) = Hatch (carried w) (carried o) (carried l)
 carried_cell (Void w d l) = Void (carried w) (carried d) (carried l)
-
-abbrev pub carried_slot : Slot → Slot
-carried_slot s = record { cell = carried_cell s.cell }
-
-abbrev pub slot_of : Cell → Slot
-slot_of c = record { cell = carried_cell c }
 
 abbrev pub carried_part : Part → Part
 carried_part p =
@@ -26,5 +19,5 @@ carried_part p =
       void = carried p.void;
       grain = carried p.grain;
       count = p.count;
-      cells = map carried_slot p.cells;
+      cells = map carried_cell p.cells;
     }

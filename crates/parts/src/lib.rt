@@ -1,18 +1,14 @@
-// Cells and parts of a hold's form, each from a place to the place behind it.
+// Cells and parts of a hold's form, at the front of what is left of a line.
 #![tactic(auto)]
 
-ghost use Rattle.std.specs.Prelude.{◌≡◌, map, ◌≤◌, length, drop};
+ghost use Rattle.std.specs.Prelude.{◌≡◌};
 ghost use Rattle.text.specs.Token.{tokens};
-ghost use Rattle.record.specs.Filler.{no_slot, no_part};
-ghost use Rattle.items.specs.Grammar.{items?};
 ghost use Rattle.items.specs.Carried.{carry};
-ghost use Rattle.items.specs.Places.{Ends};
-ghost use Rattle.parts.specs.Shape.{cell_named, numbers_of, cell_of, cell?, section?, slack?, body?, part?};
-ghost use Rattle.parts.specs.Carried.{carried_cell, slot_of, carried_part};
-ghost use Rattle.parts.specs.Places.{CellIs, Fills};
+ghost use Rattle.items.specs.Reads.{read_of};
+ghost use Rattle.parts.specs.Shape.{cell_named, cell?, section?, slack?, body?, part?};
+ghost use Rattle.parts.specs.Carried.{carried_cell, carried_part};
 
-use items::{Place, Size, Span};
-use record::{Cell, Mode, Part, Slot};
+use record::{Cell, Mode, Part};
 
 // The word of a cell.
 #[derive(Clone, Copy)]
@@ -22,272 +18,104 @@ pub enum CellWord {
     VoidWord,
 }
 
-#[derive(Clone, Copy)]
-pub enum CellNamed {
-    As(CellWord),
-    NoWord,
-}
-
-#[derive(Clone, Copy)]
-pub enum CellItem {
-    Found(Cell, usize),
-    NoCell,
-}
-
-// The cells of a part: the first `count` of the eight places.
-#[derive(Clone, Copy)]
-pub struct Cells {
-    pub count: u8,
-    pub slots: [Slot; 8],
-    pub end: Place,
-}
-
-#[derive(Clone, Copy)]
-pub struct PartItem {
-    pub part: Part,
-    pub end: Place,
-}
-
-// The parts of a hold: the first `count` of the six places.
-#[derive(Clone, Copy)]
-pub struct Parts {
-    pub count: u8,
-    pub parts: [Part; 6],
-    pub end: Place,
-}
-
 // ---- cells
 
-// The word of a cell.
-fn cell_named(word: &[u8]) -> CellNamed
+// The word of a cell. Of a `match` on the bytes the proof has a goal for each byte at which two words part.
+#[tactic(auto, using(items::proofs::Words::named_here, items::proofs::Words::named_past, items::proofs::Words::named_none))]
+fn cell_named(word: &[u8]) -> Option<CellWord>
     ensures { result ≡ cell_named word.now }
 {
-    if text::same(word, b"wing") {
-        return CellNamed::As(CellWord::WingWord);
+    if word == b"wing".as_slice() {
+        return Some(CellWord::WingWord);
     }
-    if text::same(word, b"hatch") {
-        return CellNamed::As(CellWord::HatchWord);
+    if word == b"hatch".as_slice() {
+        return Some(CellWord::HatchWord);
     }
-    if text::same(word, b"void") {
-        return CellNamed::As(CellWord::VoidWord);
+    if word == b"void".as_slice() {
+        return Some(CellWord::VoidWord);
     }
-    CellNamed::NoWord
-}
-
-// How many numbers a cell has.
-fn numbers_of(word: CellWord) -> usize
-    ensures { result ≡ numbers_of word }
-{
-    match word {
-        CellWord::WingWord => 4,
-        CellWord::HatchWord => 3,
-        CellWord::VoidWord => 3,
-    }
-}
-
-// The cell that its numbers make.
-fn cell_of(word: CellWord, v: [u16; 10]) -> Cell
-    ensures { result ≡ cell_of word v }
-{
-    match word {
-        CellWord::WingWord => Cell::Wing {
-            width: v[0],
-            dist: v[1],
-            girder: v[2],
-            lip: v[3],
-        },
-        CellWord::HatchWord => Cell::Hatch {
-            width: v[0],
-            opening: v[1],
-            lip: v[2],
-        },
-        CellWord::VoidWord => Cell::Void {
-            width: v[0],
-            depth: v[1],
-            lip: v[2],
-        },
-    }
+    None
 }
 
 // A cell, by its word.
-fn cell_at(s: &[u8], at: usize) -> CellItem
-    requires { at ≤ length s.now }
-    ensures { CellIs (carry carried_cell (cell? (tokens (drop at s.now)))) s.now result }
+fn cell<'a>(s: &'a [u8]) -> Option<(Cell, &'a [u8])>
+    ensures { carry carried_cell (cell? (tokens s.now)) ≡ read_of result }
 {
-    let Span::From(a, q) = items::head_at(s, at) else {
-        return CellItem::NoCell;
-    };
-    let CellNamed::As(word) = cell_named(text::run_of(s, a, q)) else {
-        return CellItem::NoCell;
-    };
-    let t = items::sizes_at(s, q, numbers_of(word));
-    let end = t.end;
-    let Place::At(p) = end else {
-        return CellItem::NoCell;
-    };
-    let v = t.values;
-    CellItem::Found(cell_of(word, v), p)
-}
-
-// The cells of a part, at most eight, and its closing bracket. The filler of a part has eight fillers of a cell.
-fn cells_at(s: &[u8], at: usize) -> Cells
-    requires { at ≤ length s.now }
-    ensures { Fills (carry (map slot_of) (items? 8 cell? (tokens (drop at s.now)))) s.now 8 no_slot result.count result.slots result.end }
-{
-    let filler = record::no_part();
-    let mut slots = filler.cells;
-    let mut p = at;
-    let mut i: usize = 0;
-    while i < 8 {
-        let end = items::close_at(s, p);
-        if let Place::At(q) = end {
-            return Cells {
-                count: i as u8,
-                slots,
-                end: Place::At(q),
+    let (word, rest) = items::head(s)?;
+    match cell_named(word)? {
+        CellWord::WingWord => {
+            let ([width, dist, girder, lip], rest) = items::last_sizes::<4>(rest)?;
+            let wing = Cell::Wing {
+                width,
+                dist,
+                girder,
+                lip,
             };
+            Some((wing, rest))
         }
-        let CellItem::Found(cell, q) = cell_at(s, p) else {
-            return Cells {
-                count: 0,
-                slots,
-                end: Place::Nowhere,
+        CellWord::HatchWord => {
+            let ([width, opening, lip], rest) = items::last_sizes::<3>(rest)?;
+            let hatch = Cell::Hatch {
+                width,
+                opening,
+                lip,
             };
-        };
-        slots[i] = Slot { cell };
-        p = q;
-        i += 1;
-    }
-    let end = items::close_at(s, p);
-    Cells {
-        count: 8,
-        slots,
-        end,
+            Some((hatch, rest))
+        }
+        CellWord::VoidWord => {
+            let ([width, depth, lip], rest) = items::last_sizes::<3>(rest)?;
+            let void = Cell::Void { width, depth, lip };
+            Some((void, rest))
+        }
     }
 }
 
 // ---- parts
 
-// `LENGTH CELL ..)`
-fn section_at(s: &[u8], at: usize) -> PartItem
-    requires { at ≤ length s.now }
-    ensures { Ends (carry carried_part (section? (tokens (drop at s.now)))) s.now result.part result.end }
+// `LENGTH CELL ..)`. The filler of a part has eight fillers of a cell.
+fn section<'a>(s: &'a [u8]) -> Option<(Part, &'a [u8])>
+    ensures { carry carried_part (section? (tokens s.now)) ≡ read_of result }
 {
-    let Size::Kept(length, q) = items::size_at(s, at) else {
-        return no_part_item();
-    };
-    let t = cells_at(s, q);
-    let count = t.count;
-    if count == 0 {
-        return no_part_item();
-    }
-    let end = t.end;
-    let cells = t.slots;
+    let (length, rest) = items::size(s)?;
+    let mut part = record::no_part();
+    part.length = length;
+    let (count, rest) = items::several(rest, &mut part.cells, |t| cell(t))?;
+    part.count = count as u8;
+    Some((part, rest))
+}
+
+// `LENGTH BREADTH VOID GRAIN)`
+fn slack<'a>(s: &'a [u8]) -> Option<(Part, &'a [u8])>
+    ensures { carry carried_part (slack? (tokens s.now)) ≡ read_of result }
+{
+    let ([length, breadth, void, grain], rest) = items::last_sizes::<4>(s)?;
     let part = Part {
         length,
-        breadth: 0,
-        void: 0,
-        grain: 0,
-        count,
-        cells,
+        breadth,
+        void,
+        grain,
+        ..record::no_part()
     };
-    PartItem { part, end }
-}
-
-// `LENGTH BREADTH VOID GRAIN)`. The filler of a part has eight fillers of a cell.
-fn slack_at(s: &[u8], at: usize) -> PartItem
-    requires { at ≤ length s.now }
-    ensures { Ends (carry carried_part (slack? (tokens (drop at s.now)))) s.now result.part result.end }
-{
-    let t = items::sizes_at(s, at, 4);
-    let end = t.end;
-    let v = t.values;
-    let filler = record::no_part();
-    let cells = filler.cells;
-    let part = Part {
-        length: v[0],
-        breadth: v[1],
-        void: v[2],
-        grain: v[3],
-        count: 0,
-        cells,
-    };
-    PartItem { part, end }
-}
-
-// Where no part was read.
-fn no_part_item() -> PartItem
-    ensures part_value { result.part ≡ no_part }
-    ensures end_value { result.end ≡ Place.Nowhere }
-{
-    PartItem {
-        part: record::no_part(),
-        end: Place::Nowhere,
-    }
+    Some((part, rest))
 }
 
 // The parts go by the mode.
-fn body_at(s: &[u8], at: usize, mode: Mode) -> PartItem
-    requires { at ≤ length s.now }
-    ensures { Ends (carry carried_part (body? mode (tokens (drop at s.now)))) s.now result.part result.end }
+fn body<'a>(mode: Mode, s: &'a [u8]) -> Option<(Part, &'a [u8])>
+    ensures { carry carried_part (body? mode (tokens s.now)) ≡ read_of result }
 {
     match mode {
-        Mode::Trimmed => section_at(s, at),
-        Mode::Voided => section_at(s, at),
-        Mode::Partial => slack_at(s, at),
+        Mode::Trimmed | Mode::Voided => section(s),
+        Mode::Partial => slack(s),
     }
 }
 
-// A part, by its word.
-fn part_at(s: &[u8], at: usize, mode: Mode) -> PartItem
-    requires { at ≤ length s.now }
-    ensures { Ends (carry carried_part (part? mode (tokens (drop at s.now)))) s.now result.part result.end }
+// A part of a hold of this mode, by its word.
+pub fn part<'a>(mode: Mode, s: &'a [u8]) -> Option<(Part, &'a [u8])>
+    ensures { carry carried_part (part? mode (tokens s.now)) ≡ read_of result }
 {
-    let Span::From(a, q) = items::head_at(s, at) else {
-        return no_part_item();
-    };
-    if text::same(text::run_of(s, a, q), b"part") {
-        return body_at(s, q, mode);
+    let (word, rest) = items::head(s)?;
+    if word == b"part".as_slice() {
+        return body(mode, rest);
     }
-    no_part_item()
-}
-
-// The parts of a hold, at most six, and its closing bracket.
-pub fn part_list_at(s: &[u8], at: usize, mode: Mode) -> Parts
-    requires { at ≤ length s.now }
-    ensures { Fills (carry (map carried_part) (items? 6 (part? mode) (tokens (drop at s.now)))) s.now 6 no_part result.count result.parts result.end }
-{
-    let filler = record::no_part();
-    let mut parts = [filler; 6];
-    let mut p = at;
-    let mut i: usize = 0;
-    while i < 6 {
-        let end = items::close_at(s, p);
-        if let Place::At(q) = end {
-            return Parts {
-                count: i as u8,
-                parts,
-                end: Place::At(q),
-            };
-        }
-        let t = part_at(s, p, mode);
-        let last = t.end;
-        let Place::At(q) = last else {
-            return Parts {
-                count: 0,
-                parts,
-                end: Place::Nowhere,
-            };
-        };
-        let part = t.part;
-        parts[i] = part;
-        p = q;
-        i += 1;
-    }
-    let end = items::close_at(s, p);
-    Parts {
-        count: 6,
-        parts,
-        end,
-    }
+    None
 }

@@ -1,0 +1,30 @@
+-- `parts`: `SF PART ..)`.
+use Rattle.std.proofs.Common.{rules}
+use Rattle.text.specs.Token.{tokens}
+use Rattle.items.proofs.Walks.{kept}
+use Rattle.parts.specs.Shape.{part?}
+use Rattle.parts.specs.Carried.{carried_part}
+use Rattle.forms.proofs.Records.{parts_none, parts_read}
+use Rattle.forms.specs.Shape.{parts?}
+use Rattle.forms.proofs.parts.Goals as goal
+
+pub returns-in_err-factor : goal.returns-in_err-factor
+unfolding parts?
+returns-in_err-factor c = search rules
+
+pub returns-in_err-count : goal.returns-in_err-count
+returns-in_err-count c =
+    let args = c.args in
+    let f = c.in_ok-factor in
+    let e = rw c.plain-request.ensures at c.in_err-count.ensures.filled (kept carried_part (part? args.mode)) (λ s r p. search rules) in
+    rw c.from_residual-in_err-count.ensures (parts_none args.n args.mode (tokens args.s.now) f.factor (tokens f.rest.now) f.ensures e)
+
+pub returns : goal.returns
+returns c =
+    let args = c.args in
+    let f = c.in_ok-factor in
+    let r = c.in_ok-count in
+    let e = rw c.plain-request.ensures at r.ensures.filled (kept carried_part (part? args.mode)) (λ s r p. search rules) in
+    let h = rw c.plain-request.ensures at r.ensures.count in
+    let l = rw c.plain-request.ensures at c.several.auto.places in
+    rw c.plain-request.ensures (parts_read args.n args.mode (tokens args.s.now) f.factor (tokens f.rest.now) f.ensures r.count c.several.new.places r.rest h l e)

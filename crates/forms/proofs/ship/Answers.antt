@@ -1,0 +1,35 @@
+-- `ship`: `RULE EDGE FLOOD)`.
+use Rattle.std.proofs.Common.{rules}
+use Rattle.forms.specs.Carried.{carried_request}
+use mathlib.Core.List.{map}
+use mathlib.Core.Path.{◌≡◌, sym, ◌∙◌}
+use Rattle.std.specs.Prelude.{Some}
+use Rattle.text.specs.Token.{tokens}
+use Rattle.items.specs.Grammar.{last_numbers?, nth}
+use Rattle.items.specs.Carried.{carried}
+use Rattle.items.proofs.Walks.{built, nth_kept}
+use Rattle.forms.proofs.Records.{rule_kept}
+use Rattle.forms.specs.Shape.{ship?, rule_named, ship_request}
+use Rattle.forms.proofs.ship.Goals as goal
+
+pub returns-in_err-word : goal.returns-in_err-word
+unfolding ship?
+returns-in_err-word c = search rules
+
+pub returns-in_err-word-2 : goal.returns-in_err-word-2
+unfolding ship?
+returns-in_err-word-2 c = search rules
+
+pub returns-in_err-edge : goal.returns-in_err-edge
+unfolding ship?
+returns-in_err-edge c = search rules
+
+pub returns : goal.returns
+unfolding ship? carried_request
+returns c =
+    let r = c.in_ok-word in
+    let w = c.in_ok-word-2.word in
+    let v = c.in_ok-edge.field-0-0 in
+    let n : rule_named r.word.now ≡ Some w = sym c.rule_named.ensures ∙ c.in_ok-word-2.was in
+    rw (r.ensures, n) (built carried_request (ship_request w) (map carried) (last_numbers? 2 (tokens r.rest.now)) v (tokens c.in_ok-edge.rest.now) _ c.in_ok-edge.ensures
+    (λ x e. rw (c.plain.ensures, c.rule_of.ensures, rule_kept w (nth x 0), nth_kept v x 0 e, nth_kept v x 1 e)))
