@@ -18,9 +18,10 @@ use Rattle.parts.specs.Carried.{carried_part}
 use Rattle.parts.proofs.Records.{map_padded, filled}
 use Rattle.forms.specs.declared.RuleWord.{RuleWord}
 use Rattle.forms.specs.declared.RuleWord.TheVariants.{NewWord, OldWord}
-use Rattle.forms.specs.declared.Kind.{Kind}
-use Rattle.forms.specs.Shape.{rule_of, hold_record, hold_request, parts?, plain, bare?}
-use Rattle.forms.specs.Carried.{carried_rule, carried_kind, carried_request}
+use Rattle.forms.specs.declared.Request.{Request}
+use Rattle.forms.specs.declared.Request.TheVariants.{HoldLine}
+use Rattle.forms.specs.Shape.{rule_of, hold_record, parts?, bare?}
+use Rattle.forms.specs.Carried.{carried_rule, carried_request}
 
 -- a rule with its edge, as it is carried
 pub rule_kept : (w : RuleWord) (edge : ℕ) → carried_rule (rule_of w edge) ≡ rule_of w (carried edge)
@@ -28,8 +29,8 @@ rule_kept NewWord edge = refl
 rule_kept OldWord edge = refl
 
 -- a hold of parts, as it is carried
-pub hold_kept : (n : ℕ) (mode : Mode) (factor : ℕ) (xs : List Part) → carried_request (hold_request n (hold_record mode factor xs)) ≡
-    hold_request n (record { head = record { mode = mode; factor = carried factor; count = length xs }; parts = padded 6 no_part (map carried_part xs) })
+pub hold_kept : (n : ℕ) (mode : Mode) (factor : ℕ) (xs : List Part) → carried_request (HoldLine n (hold_record mode factor xs)) ≡
+    HoldLine n (record { head = record { mode = mode; factor = carried factor; count = length xs }; parts = padded 6 no_part (map carried_part xs) })
 unfolding carried_request
 hold_kept n mode factor xs = rw (map_padded carried_part 6 no_part xs)
 
@@ -38,22 +39,22 @@ module _ (n : ℕ) (mode : Mode) (ts : List Token) (v : ℕ) (us : List Token) (
   unfolding parts?
   parts_none e =
       let i = carries carried (number? ts) v us factor in
-      rw i.is (several_unbuilt carried_part (part? mode) carried_request (λ ps. hold_request n (hold_record mode i.read ps)) 6 us e)
+      rw i.is (several_unbuilt carried_part (part? mode) carried_request (λ ps. HoldLine n (hold_record mode i.read ps)) 6 us e)
 
   pub parts_read : (count : ℕ) (parts : List Part) (ws : Bor (List ℕ)) → count ≤ 6 → length parts ≡ 6 → Fills (several? 6 (kept carried_part (part? mode)) us) (replicate 6 no_part) parts (Some (count, ws)) →
-      carry carried_request (parts? n mode ts) ≡ got (hold_request n (record { head = record { mode = mode; factor = v; count = count }; parts = parts })) (tokens ws.now)
+      carry carried_request (parts? n mode ts) ≡ got (HoldLine n (record { head = record { mode = mode; factor = v; count = count }; parts = parts })) (tokens ws.now)
   unfolding parts?
   parts_read count parts ws h l e =
       let i = carries carried (number? ts) v us factor in
       let front = filled 6 no_part count parts h l e.1 in
-      rw i.is (several_built carried_part (part? mode) carried_request (λ ps. hold_request n (hold_record mode i.read ps)) 6 us (take count parts) (tokens ws.now) _ e.0
+      rw i.is (several_built carried_part (part? mode) carried_request (λ ps. HoldLine n (hold_record mode i.read ps)) 6 us (take count parts) (tokens ws.now) _ e.0
       (λ xs m. hold_kept n mode i.read xs ∙ rw (← i.kept, ← length-map xs carried_part, ← m, front.0, ← front.1)))
 
--- a request of a kind that holds no numbers is carried as it is
-pub bare_kept : (k : Kind) (ts : List Token) → carried_kind k ≡ k → carry carried_request (bare? k ts) ≡ bare? k ts
-unfolding carried_request bare?
-bare_kept k ts e = by (close? ts)
+-- a request that holds no numbers is carried as it is
+pub bare_kept : (r : Request) (ts : List Token) → carried_request r ≡ r → carry carried_request (bare? r ts) ≡ bare? r ts
+unfolding bare?
+bare_kept r ts e = by (close? ts)
   where
-    by : (p : Parsed (Unit {0})) → carry carried_request (p and_then λ u us. got (plain k) us) ≡ (p and_then λ u us. got (plain k) us)
+    by : (p : Parsed (Unit {0})) → carry carried_request (p and_then λ u us. got r us) ≡ (p and_then λ u us. got r us)
     by (got u us) = rw e
     by none = refl

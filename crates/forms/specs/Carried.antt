@@ -12,9 +12,8 @@ use Rattle.record.specs.declared.Weighing.{Weighing}
 use Rattle.record.specs.declared.Weighing.TheVariants.{Weight, Weighed, Unweigh}
 use Rattle.items.specs.Carried.{carried}
 use Rattle.parts.specs.Carried.{carried_part}
-use Rattle.forms.specs.declared.Kind.{Kind}
-use Rattle.forms.specs.declared.Kind.TheVariants.{ShipLine, ColumnLine, LoadLine, HoldLine, DropLine, JudgeLine, ClearLine, ShowLine, TotalLine, WeighingLine, NoShape}
 use Rattle.forms.specs.declared.Request.{Request}
+use Rattle.forms.specs.declared.Request.TheVariants.{ShipLine, ColumnLine, LoadLine, HoldLine, DropLine, JudgeLine, ClearLine, ShowLine, TotalLine, WeighingLine}
 
 abbrev pub carried_rule : Rule → Rule
 carried_rule (New e) = New (carried e)
@@ -44,19 +43,15 @@ carried_weighing (Weight i) = Weight (carried_item i)
 carried_weighing (Weighed fs) = Weighed (carried fs)
 carried_weighing Unweigh = Unweigh
 
-abbrev pub carried_kind : Kind → Kind
-carried_kind (ShipLine s) = ShipLine (carried_ship s)
-carried_kind ColumnLine = ColumnLine
-carried_kind (LoadLine l) = LoadLine (carried_load l)
-carried_kind (HoldLine n) = HoldLine n
-carried_kind (DropLine n) = DropLine n
-carried_kind JudgeLine = JudgeLine
-carried_kind ClearLine = ClearLine
-carried_kind ShowLine = ShowLine
-carried_kind TotalLine = TotalLine
-carried_kind (WeighingLine w) = WeighingLine (carried_weighing w)
-carried_kind NoShape = NoShape
-
 -- a request as it is carried
 unfoldable pub carried_request : Request → Request
-carried_request r = record { kind = carried_kind r.kind; hold = carried_hold r.hold; column = carried_column r.column }
+carried_request (ShipLine s) = ShipLine (carried_ship s)
+carried_request (ColumnLine k) = ColumnLine (carried_column k)
+carried_request (LoadLine l) = LoadLine (carried_load l)
+carried_request (HoldLine n h) = HoldLine n (carried_hold h)
+carried_request (DropLine n) = DropLine n
+carried_request JudgeLine = JudgeLine
+carried_request ClearLine = ClearLine
+carried_request ShowLine = ShowLine
+carried_request TotalLine = TotalLine
+carried_request (WeighingLine w) = WeighingLine (carried_weighing w)

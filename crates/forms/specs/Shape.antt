@@ -3,12 +3,11 @@
 use Rattle.std.specs.Prelude.{List, [], ◌∷◌, ℕ, length, Option, Some, None}
 use Rattle.record.specs.declared.Rule.{Rule}
 use Rattle.record.specs.declared.Rule.TheVariants.{New, Old}
-use Rattle.record.specs.declared.Column.{Column}
 use Rattle.record.specs.declared.Mode.{Mode}
 use Rattle.record.specs.declared.Mode.TheVariants.{Trimmed, Voided, Partial}
 use Rattle.record.specs.declared.Part.{Part}
 use Rattle.record.specs.declared.Hold.{Hold}
-use Rattle.record.specs.Filler.{no_column, no_part, no_hold, padded}
+use Rattle.record.specs.Filler.{no_part, padded}
 use Rattle.text.specs.Token.{Token}
 use Rattle.items.specs.Grammar.{Parsed, got, ◌and_then◌, open?, close?, run?, head?, named, behind?, number?, nth, last_numbers?, several?}
 use Rattle.parts.specs.Shape.{part?}
@@ -16,19 +15,8 @@ use Rattle.forms.specs.declared.RuleWord.{RuleWord}
 use Rattle.forms.specs.declared.RuleWord.TheVariants.{NewWord, OldWord}
 use Rattle.forms.specs.declared.FormWord.{FormWord}
 use Rattle.forms.specs.declared.FormWord.TheVariants.{ShipWord, ColumnWord, LoadWord, HoldWord, DropWord, JudgeWord, ClearWord}
-use Rattle.forms.specs.declared.Kind.{Kind}
-use Rattle.forms.specs.declared.Kind.TheVariants.{ShipLine, ColumnLine, LoadLine, HoldLine, DropLine, JudgeLine, ClearLine}
+use Rattle.forms.specs.declared.Request.TheVariants.{ShipLine, ColumnLine, LoadLine, HoldLine, DropLine, JudgeLine, ClearLine}
 use Rattle.forms.specs.declared.Request.{Request}
-
--- a request with no hold or column beside it; one with a column; one with a hold
-abbrev pub plain : Kind → Request
-plain k = record { kind = k; hold = no_hold; column = no_column }
-
-abbrev pub column_request : Column → Request
-column_request k = record { kind = ColumnLine; hold = no_hold; column = k }
-
-abbrev pub hold_request : ℕ → Hold → Request
-hold_request n h = record { kind = HoldLine n; hold = h; column = no_column }
 
 -- `RULE EDGE FLOOD)` behind `(ship`
 abbrev pub rule_named : List ℕ → Option RuleWord
@@ -39,7 +27,7 @@ rule_of NewWord edge = New edge
 rule_of OldWord edge = Old edge
 
 abbrev pub ship_request : RuleWord → List ℕ → Request
-ship_request w v = plain (ShipLine (record { rule = rule_of w (nth v 0); flood = nth v 1 }))
+ship_request w v = ShipLine (record { rule = rule_of w (nth v 0); flood = nth v 1 })
 
 abbrev pub ship_by : RuleWord → List Token → Parsed Request
 ship_by w ts = last_numbers? 2 ts and_then λ v us. got (ship_request w v) us
@@ -55,14 +43,14 @@ column? ts =
     open? t2 and_then λ u t3.
     last_numbers? 10 t3 and_then λ kn t4.
     close? t4 and_then λ u t5.
-    got (column_request (record { d = d; km = km; kn = kn })) t5
+    got (ColumnLine (record { d = d; km = km; kn = kn })) t5
 
 -- `D KG FS)` behind `(load`
 unfoldable pub load? : List Token → Parsed Request
 load? ts =
     number? ts and_then λ d us.
     last_numbers? 2 us and_then λ v ws.
-    got (plain (LoadLine (record { d = d; kg = nth v 0; fs = nth v 1 }))) ws
+    got (LoadLine (record { d = d; kg = nth v 0; fs = nth v 1 })) ws
 
 -- a hold of these parts
 abbrev pub hold_record : Mode → ℕ → List Part → Hold
@@ -74,7 +62,7 @@ unfoldable pub parts? : ℕ → Mode → List Token → Parsed Request
 parts? n mode ts =
     number? ts and_then λ factor us.
     several? 6 (part? mode) us and_then λ ps ws.
-    got (hold_request n (hold_record mode factor ps)) ws
+    got (HoldLine n (hold_record mode factor ps)) ws
 
 -- `N MODE ..` behind `(hold`
 abbrev pub mode_named : List ℕ → Option Mode
@@ -88,11 +76,11 @@ hold? ts =
 
 -- `N)` behind `(drop`
 unfoldable pub drop? : List Token → Parsed Request
-drop? ts = number? ts and_then λ n us. close? us and_then λ u ws. got (plain (DropLine n)) ws
+drop? ts = number? ts and_then λ n us. close? us and_then λ u ws. got (DropLine n) ws
 
 -- `)` behind `(judge` and `(clear`
-unfoldable pub bare? : Kind → List Token → Parsed Request
-bare? k ts = close? ts and_then λ u us. got (plain k) us
+unfoldable pub bare? : Request → List Token → Parsed Request
+bare? r ts = close? ts and_then λ u us. got r us
 
 -- a form of document 01, by its first word: its word, and the shape of what stands behind it
 abbrev pub form_word : List ℕ → Option FormWord

@@ -5,33 +5,24 @@ ghost use Rattle.std.specs.Prelude.{◌≡◌};
 ghost use Rattle.text.specs.Token.{tokens};
 ghost use Rattle.items.specs.Carried.{carry};
 ghost use Rattle.items.specs.Reads.{read_of};
-ghost use Rattle.forms.specs.Shape.{plain, rule_named, rule_of, ship?, column?, load?, mode_named, parts?, hold?, drop?, bare?, form_word, form_by};
+ghost use Rattle.forms.specs.Shape.{rule_named, rule_of, ship?, column?, load?, mode_named, parts?, hold?, drop?, bare?, form_word, form_by};
 ghost use Rattle.forms.specs.Carried.{carried_request};
 
 use record::{Column, Head, Hold, Load, Mode, Rule, Ship, Weighing};
 
-// Which form a line is. A hold's and a column's record stand beside it: an enum that holds an array is not covered by the
-// prover's walk.
+// What a line asks for: which form it is, with its record.
 #[derive(Clone, Copy)]
-pub enum Kind {
+pub enum Request {
     ShipLine(Ship),
-    ColumnLine,
+    ColumnLine(Column),
     LoadLine(Load),
-    HoldLine(u32),
+    HoldLine(u32, Hold),
     DropLine(u32),
     JudgeLine,
     ClearLine,
     ShowLine,
     TotalLine,
     WeighingLine(Weighing),
-    NoShape,
-}
-
-#[derive(Clone, Copy)]
-pub struct Request {
-    pub kind: Kind,
-    pub hold: Hold,
-    pub column: Column,
 }
 
 // The word of a rule.
@@ -54,17 +45,6 @@ pub enum FormWord {
 }
 
 // ---- ships, loads, drops, columns
-
-// A request without hold or column.
-pub fn plain(kind: Kind) -> Request
-    ensures { result ≡ plain kind }
-{
-    Request {
-        kind,
-        hold: record::no_hold(),
-        column: record::no_column(),
-    }
-}
 
 // The word of a rule.
 #[tactic(auto, using(items::proofs::Words::named_here, items::proofs::Words::named_past, items::proofs::Words::named_none))]
@@ -101,7 +81,7 @@ fn ship<'a>(s: &'a [u8]) -> Option<(Request, &'a [u8])>
         rule: rule_of(word, edge),
         flood,
     };
-    Some((plain(Kind::ShipLine(ship)), rest))
+    Some((Request::ShipLine(ship), rest))
 }
 
 // `D KG FS)`
@@ -110,7 +90,7 @@ fn load<'a>(s: &'a [u8]) -> Option<(Request, &'a [u8])>
 {
     let (d, rest) = items::number(s)?;
     let ([kg, fs], rest) = items::last_sizes::<2>(rest)?;
-    Some((plain(Kind::LoadLine(Load { d, kg, fs })), rest))
+    Some((Request::LoadLine(Load { d, kg, fs }), rest))
 }
 
 // `N)`
@@ -119,15 +99,15 @@ fn drop<'a>(s: &'a [u8]) -> Option<(Request, &'a [u8])>
 {
     let (n, rest) = items::number(s)?;
     let rest = items::close(rest)?;
-    Some((plain(Kind::DropLine(n)), rest))
+    Some((Request::DropLine(n), rest))
 }
 
 // `)`
-pub fn bare<'a>(kind: Kind, s: &'a [u8]) -> Option<(Request, &'a [u8])>
-    ensures { bare? kind (tokens s.now) ≡ read_of result }
+pub fn bare<'a>(request: Request, s: &'a [u8]) -> Option<(Request, &'a [u8])>
+    ensures { bare? request (tokens s.now) ≡ read_of result }
 {
     let rest = items::close(s)?;
-    Some((plain(kind), rest))
+    Some((request, rest))
 }
 
 // `D KM (K .. K))`
@@ -139,9 +119,7 @@ fn column<'a>(s: &'a [u8]) -> Option<(Request, &'a [u8])>
     let rest = items::open(rest)?;
     let (kn, rest) = items::last_sizes::<10>(rest)?;
     let rest = items::close(rest)?;
-    let mut request = plain(Kind::ColumnLine);
-    request.column = Column { d, km, kn };
-    Some((request, rest))
+    Some((Request::ColumnLine(Column { d, km, kn }), rest))
 }
 
 // ---- a hold
@@ -151,14 +129,14 @@ fn parts<'a>(n: u32, mode: Mode, s: &'a [u8]) -> Option<(Request, &'a [u8])>
     ensures { carry carried_request (parts? n mode (tokens s.now)) ≡ read_of result }
 {
     let (factor, rest) = items::size(s)?;
-    let mut request = plain(Kind::HoldLine(n));
-    let (count, rest) = items::several(rest, &mut request.hold.parts, |t| parts::part(mode, t))?;
-    request.hold.head = Head {
+    let mut hold = record::no_hold();
+    let (count, rest) = items::several(rest, &mut hold.parts, |t| parts::part(mode, t))?;
+    hold.head = Head {
         mode,
         factor,
         count: count as u8,
     };
-    Some((request, rest))
+    Some((Request::HoldLine(n, hold), rest))
 }
 
 // The word of a mode.
@@ -229,7 +207,7 @@ pub fn form_by<'a>(word: FormWord, s: &'a [u8]) -> Option<(Request, &'a [u8])>
         FormWord::LoadWord => load(s),
         FormWord::HoldWord => hold(s),
         FormWord::DropWord => drop(s),
-        FormWord::JudgeWord => bare(Kind::JudgeLine, s),
-        FormWord::ClearWord => bare(Kind::ClearLine, s),
+        FormWord::JudgeWord => bare(Request::JudgeLine, s),
+        FormWord::ClearWord => bare(Request::ClearLine, s),
     }
 }

@@ -6,8 +6,8 @@ use Rattle.text.specs.Token.{tokens}
 use Rattle.items.specs.Grammar.{last_numbers?, nth}
 use Rattle.items.specs.Carried.{carried}
 use Rattle.items.proofs.Walks.{built, nth_kept}
-use Rattle.forms.specs.declared.Kind.TheVariants.{LoadLine}
-use Rattle.forms.specs.Shape.{load?, plain}
+use Rattle.forms.specs.declared.Request.TheVariants.{LoadLine}
+use Rattle.forms.specs.Shape.{load?}
 use Rattle.forms.proofs.load.Goals as goal
 
 pub returns-in_err-d : goal.returns-in_err-d
@@ -23,5 +23,5 @@ unfolding load? carried_request
 returns c =
     let r = c.in_ok-d in
     let v = c.in_ok-kg.field-0-0 in
-    rw r.ensures (built carried_request (λ x. plain (LoadLine (record { d = r.d; kg = nth x 0; fs = nth x 1 }))) (map carried) (last_numbers? 2 (tokens r.rest.now)) v (tokens c.in_ok-kg.rest.now) _ c.in_ok-kg.ensures
-    (λ x e. rw (c.plain.ensures, nth_kept v x 0 e, nth_kept v x 1 e)))
+    rw r.ensures (built carried_request (λ x. LoadLine (record { d = r.d; kg = nth x 0; fs = nth x 1 })) (map carried) (last_numbers? 2 (tokens r.rest.now)) v (tokens c.in_ok-kg.rest.now) _ c.in_ok-kg.ensures
+    (λ x e. rw (nth_kept v x 0 e, nth_kept v x 1 e)))

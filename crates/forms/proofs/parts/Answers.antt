@@ -16,7 +16,7 @@ pub returns-in_err-count : goal.returns-in_err-count
 returns-in_err-count c =
     let args = c.args in
     let f = c.in_ok-factor in
-    let e = rw c.plain-request.ensures at c.in_err-count.ensures.filled (kept carried_part (part? args.mode)) (λ s r p. search rules) in
+    let e = rw c.no_hold-hold.ensures at c.in_err-count.ensures.filled (kept carried_part (part? args.mode)) (λ s r p. search rules) in
     rw c.from_residual-in_err-count.ensures (parts_none args.n args.mode (tokens args.s.now) f.factor (tokens f.rest.now) f.ensures e)
 
 pub returns : goal.returns
@@ -24,7 +24,7 @@ returns c =
     let args = c.args in
     let f = c.in_ok-factor in
     let r = c.in_ok-count in
-    let e = rw c.plain-request.ensures at r.ensures.filled (kept carried_part (part? args.mode)) (λ s r p. search rules) in
-    let h = rw c.plain-request.ensures at r.ensures.count in
-    let l = rw c.plain-request.ensures at c.several.auto.places in
-    rw c.plain-request.ensures (parts_read args.n args.mode (tokens args.s.now) f.factor (tokens f.rest.now) f.ensures r.count c.several.new.places r.rest h l e)
+    let e = rw c.no_hold-hold.ensures at r.ensures.filled (kept carried_part (part? args.mode)) (λ s r p. search rules) in
+    let h = rw c.no_hold-hold.ensures at r.ensures.count in
+    let l = rw c.no_hold-hold.ensures at c.several.auto.places in
+    parts_read args.n args.mode (tokens args.s.now) f.factor (tokens f.rest.now) f.ensures r.count c.several.new.places r.rest h l e

@@ -32,4 +32,4 @@ returns c =
     let v = c.in_ok-edge.field-0-0 in
     let n : rule_named r.word.now ≡ Some w = sym c.rule_named.ensures ∙ c.in_ok-word-2.was in
     rw (r.ensures, n) (built carried_request (ship_request w) (map carried) (last_numbers? 2 (tokens r.rest.now)) v (tokens c.in_ok-edge.rest.now) _ c.in_ok-edge.ensures
-    (λ x e. rw (c.plain.ensures, c.rule_of.ensures, rule_kept w (nth x 0), nth_kept v x 0 e, nth_kept v x 1 e)))
+    (λ x e. rw (c.rule_of.ensures, rule_kept w (nth x 0), nth_kept v x 0 e, nth_kept v x 1 e)))
