@@ -33,3 +33,8 @@ module _ {A : Type 0} (w : String) (a : A) (table : List (String × A)) (other :
 pub named_none : {A : Type 0} (other : A) (r : List ℕ) → other ≡ named [] other r
 unfolding named
 named_none other r = refl
+
+-- and where another word may stand behind the table
+pub named_other : {A : Type 0} (b other : A) (r : List ℕ) → b ≡ other → b ≡ named [] other r
+unfolding named
+named_other b other r e = e

@@ -1,14 +1,14 @@
 -- A hold that was read has six places for parts of eight places for cells each, and a column ten KN.
 use mathlib.Core.Path.{◌≡◌, refl}
-use mathlib.Core.List.{List, [], ◌∷◌, ◌++◌, map}
+use mathlib.Core.List.{List, [], ◌∷◌, ◌++◌}
 use Prim.Native.Nat.{ℕ, zero, suc, ◌+◌, ◌-◌, ◌≤◌, ◌<◌}
 use native.Mathlib.Omega.{arith}
-use lib.ListN.{length, get_or, replicate, length-append, length-replicate, length-map, get_or-replicate}
+use lib.ListN.{length, get_or, replicate, length-append, length-replicate, get_or-replicate}
 use Rattle.record.specs.declared.Mode.{Mode}
 use Rattle.record.specs.declared.Cell.{Cell}
 use Rattle.record.specs.declared.Part.{Part}
 use Rattle.record.specs.declared.Column.{Column}
-use Rattle.record.specs.Filler.{no_slot, no_part, no_hold, padded}
+use Rattle.record.specs.Filler.{no_cell, no_part, no_hold, padded}
 use Rattle.text.specs.Token.{Token}
 use Rattle.forms.specs.declared.Kind.{Kind}
 use Rattle.forms.specs.declared.Request.{Request}
@@ -16,7 +16,7 @@ use Rattle.parts.specs.Shape.{section_record}
 use Rattle.forms.specs.Shape.{hold_record, hold_request}
 use Rattle.request.specs.Shape.{request_of}
 use Rattle.items.proofs.Yields.{Each, Several}
-use Rattle.parts.proofs.Tidy.{in_slot, part_yields}
+use Rattle.parts.proofs.Tidy.{part_yields}
 use Rattle.request.proofs.Lines.{request_has}
 
 -- ---- a list in the first of n places
@@ -41,7 +41,7 @@ abbrev Eight : Part → Type 0
 Eight p = length p.cells ≡ 8
 
 section_eight : (v : ℕ) (cs : List Cell) → length cs ≤ 8 → Eight (section_record v cs)
-section_eight v cs h = padded_length no_slot 8 (map in_slot cs) (omega (arith, length-map cs in_slot))
+section_eight v cs h = padded_length no_cell 8 cs h
 
 -- ---- a request
 record Sized (r : Request) : Type 0 where
@@ -68,7 +68,7 @@ no_hold_sized k c ten =
 request_sized : (ts : List Token) → Sized (request_of ts)
 request_sized =
     request_has Sized (λ m. Eight)
-    (part_yields (λ m. Eight) section_eight section_eight (λ v. padded_length no_slot 8 [] (omega arith))) hold_sized
+    (part_yields (λ m. Eight) section_eight section_eight (λ v. padded_length no_cell 8 [] (omega arith))) hold_sized
     (λ k c other ten. no_hold_sized k c ten)
 
 pub hold_places_lem : (ts : List Token) → length (request_of ts).hold.parts ≡ 6

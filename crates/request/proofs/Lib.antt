@@ -1,4 +1,3 @@
 pub mod Lines
 pub mod Tidy
 pub mod Lengths
-pub mod Shows

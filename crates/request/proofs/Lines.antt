@@ -9,7 +9,7 @@ use Rattle.record.specs.declared.Column.{Column}
 use Rattle.record.specs.Filler.{no_column, no_hold}
 use Rattle.text.specs.Token.{Token}
 use Rattle.items.specs.Grammar.{head?, is, number?, last_numbers?}
-use Rattle.items.proofs.Yields.{Yields, yields, yields_then, yields_if, yields_whole, Several}
+use Rattle.items.proofs.Yields.{Yields, yields, yields_then, yields_if, yields_behind, yields_whole, Several}
 use Rattle.parts.specs.Shape.{part?}
 use Rattle.forms.specs.declared.Kind.{Kind}
 use Rattle.forms.specs.declared.Kind.TheVariants.{HoldLine, NoShape}
@@ -37,7 +37,7 @@ module _ (P : Request → Type 0) (Q : Mode → Part → Type 0) (part : (m : Mo
 
   line_yields : (ts : List Token) → Yields P (line? ts)
   unfolding line?
-  line_yields ts = yields_then (head? ts) (λ r us. yields_if (is r "show") (show_yields us) (line_by_yields (line_word r) us))
+  line_yields ts = yields_then (head? ts) (λ r us. yields_if (is r "show") (show_yields us) (yields_behind (line_word r) line_by_yields us))
 
   pub request_has : (ts : List Token) → P (request_of ts)
   unfolding request_of

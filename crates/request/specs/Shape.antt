@@ -1,10 +1,10 @@
 -- Document 01, Lines of the panel, and document 02: the shapes of lines. A line that is none of them is code 14. Those of document 01's forms are in
 -- forms/specs/Shape.antt.
-use Rattle.std.specs.Prelude.{cond, List, [], ◌∷◌, ℕ}
+use Rattle.std.specs.Prelude.{cond, List, [], ◌∷◌, ℕ, Option, Some, option_map}
 use Prim.Native.String.{String}
 use Rattle.record.specs.declared.Weighing.TheVariants.{Weight, Weighed, Unweigh}
 use Rattle.text.specs.Token.{Token}
-use Rattle.items.specs.Grammar.{Parsed, got, ◌and_then◌, head?, is, named, number?, nth, last_numbers?, whole?}
+use Rattle.items.specs.Grammar.{Parsed, got, ◌and_then◌, head?, is, named, behind?, number?, nth, last_numbers?, whole?}
 use Rattle.forms.specs.declared.Kind.{Kind}
 use Rattle.forms.specs.declared.Kind.TheVariants.{ShipLine, ColumnLine, LoadLine, HoldLine, DropLine, JudgeLine, ClearLine, ShowLine, TotalLine, WeighingLine, NoShape}
 use Rattle.forms.specs.declared.Request.{Request}
@@ -27,11 +27,11 @@ unfoldable pub weighed? : List Token → Parsed Request
 weighed? ts = last_numbers? 1 ts and_then λ v us. got (plain (WeighingLine (Weighed (nth v 0)))) us
 
 -- a line but show, by its first word: the lines that no show takes, and document 01's forms; and the shape of what stands behind the word
-abbrev pub line_words : List (String × LineWord)
-line_words = ("total", TotalWord) ∷ ("weight", WeightWord) ∷ ("weighed", WeighedWord) ∷ ("unweigh", UnweighWord) ∷ []
+abbrev pub line_words : List (String × Option LineWord)
+line_words = ("total", Some TotalWord) ∷ ("weight", Some WeightWord) ∷ ("weighed", Some WeighedWord) ∷ ("unweigh", Some UnweighWord) ∷ []
 
-abbrev pub line_word : List ℕ → LineWord
-line_word r = named line_words (OfForm (form_word r)) r
+abbrev pub line_word : List ℕ → Option LineWord
+line_word r = named line_words (option_map OfForm (form_word r)) r
 
 abbrev pub line_by : LineWord → List Token → Parsed Request
 line_by (OfForm w) ts = form_by w ts
@@ -42,7 +42,7 @@ line_by UnweighWord ts = bare? (WeighingLine Unweigh) ts
 
 -- a line: a show of a form, or by its first word
 unfoldable pub line? : List Token → Parsed Request
-line? ts = head? ts and_then λ r us. cond (is r "show") (show? us) (line_by (line_word r) us)
+line? ts = head? ts and_then λ r us. cond (is r "show") (show? us) (behind? line_by (line_word r) us)
 
 -- the request of a line's tokens
 unfoldable pub request_of : List Token → Request
