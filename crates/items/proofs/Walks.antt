@@ -4,12 +4,13 @@ use mathlib.Core.Bool.{true, false}
 use mathlib.Core.List.{List, [], ◌∷◌, ◌++◌, map, append-nil}
 use Prim.Native.Nat.{ℕ, zero, suc, ◌-◌, ◌<◌}
 use native.Mathlib.Omega.{arith}
-use lib.ListN.{length, get_or, take, get_or-map}
-use lib.Seq.{append_snoc, get_or-take}
+use lib.ListN.{length, get_or, get_or-map}
+use lib.Seq.{append_snoc}
 use Rattle.text.specs.Token.{Token}
 use Rattle.items.specs.Grammar.{Parsed, got, none, ◌and_then◌, close?, number?, nth, numbers?, last_numbers?, or_else, items?, some_of, several?, whole?}
 use Rattle.items.specs.Carried.{carry, carried}
 use Rattle.items.specs.Reads.{is_end}
+use Rattle.std.specs.Prelude.{Some, None}
 
 -- what was read, in front of what is read behind it
 abbrev pub ahead : {A : Type 0} → List A → Parsed (List A) → Parsed (List A)
@@ -195,14 +196,14 @@ module _ {A B : Type 0} (f : A → B) (item : List Token → Parsed A) where
     several_unbuilt e = unbuilt made mk (map f) (several? k item us) (sym (several_kept k us) ∙ e)
 
 -- nothing stands behind the form
-pub whole_end : {A : Type 0} (a other : A) (ts : List Token) → is_end ts ≡ true → whole? (got a ts) other ≡ a
+pub whole_end : {A : Type 0} (a : A) (ts : List Token) → is_end ts ≡ true → whole? (got a ts) ≡ Some a
 unfolding is_end
-whole_end a other [] e = refl
-whole_end a other (t ∷ ts) e =
+whole_end a [] e = refl
+whole_end a (t ∷ ts) e =
     let z : ◌≡◌ {A = ℕ} 0 1 = cc in absurd (omega arith)
 
-pub whole_more : {A : Type 0} (a other : A) (ts : List Token) → is_end ts ≡ false → whole? (got a ts) other ≡ other
+pub whole_more : {A : Type 0} (a : A) (ts : List Token) → is_end ts ≡ false → whole? (got a ts) ≡ None
 unfolding is_end
-whole_more a other [] e =
+whole_more a [] e =
     let z : ◌≡◌ {A = ℕ} 0 1 = cc in absurd (omega arith)
-whole_more a other (t ∷ ts) e = refl
+whole_more a (t ∷ ts) e = refl

@@ -35,10 +35,14 @@ pub yields_behind : {W A : Type 0} {P : A → Type 0} {f : W → List Token → 
 yields_behind (Some w) h ts = h w ts
 yields_behind None h ts = nothing
 
-pub yields_whole : {A : Type 0} (P : A → Type 0) (other : A) {r : Parsed A} → Yields P r → P other → P (whole? r other)
-yields_whole P other (yields {ts = []} p) q = p
-yields_whole P other (yields {ts = t ∷ ts} p) q = q
-yields_whole P other nothing q = q
+pub yields_whole : {A : Type 0} (P : A → Type 0) {r : Parsed A} (a : A) → Yields P r → whole? r ≡ Some a → P a
+yields_whole P a (yields {a = b} {ts = []} p) e =
+    let h : b ≡ a = cc in
+    rw h at p
+yields_whole P a (yields {ts = t ∷ ts} p) e =
+    let z : ◌≡◌ {A = ℕ} 0 1 = cc in absurd (omega arith)
+yields_whole P a nothing e =
+    let z : ◌≡◌ {A = ℕ} 0 1 = cc in absurd (omega arith)
 
 -- if every item that is read has the property, then all of the list have it, and they are at most k
 module _ {A : Type 0} (P : A → Type 0) where

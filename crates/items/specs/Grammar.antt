@@ -90,7 +90,7 @@ abbrev pub several? : {A : Type 0} → ℕ → (List Token → Parsed A) → Lis
 several? k item ts = items? k item ts and_then some_of
 
 -- nothing behind it: the answer for a whole line
-abbrev pub whole? : {A : Type 0} → Parsed A → A → A
-whole? (got a []) other = a
-whole? (got a (t ∷ ts)) other = other
-whole? none other = other
+abbrev pub whole? : {A : Type 0} → Parsed A → Option A
+whole? (got a []) = Some a
+whole? (got a (t ∷ ts)) = None
+whole? none = None

@@ -7,13 +7,15 @@ use lib.ListN.{length, get_or, replicate, length-append, length-replicate, get_o
 use Rattle.record.specs.declared.Mode.{Mode}
 use Rattle.record.specs.declared.Cell.{Cell}
 use Rattle.record.specs.declared.Part.{Part}
-use Rattle.record.specs.declared.Column.{Column}
-use Rattle.record.specs.Filler.{no_cell, no_part, no_hold, padded}
+use Rattle.record.specs.Filler.{no_cell, no_part, padded}
 use Rattle.text.specs.Token.{Token}
-use Rattle.forms.specs.declared.Kind.{Kind}
+use Rattle.record.specs.declared.Hold.{Hold}
+use Rattle.std.specs.Prelude.{Some}
 use Rattle.forms.specs.declared.Request.{Request}
+use Rattle.forms.specs.declared.Request.TheVariants.{ShipLine, ColumnLine, LoadLine, HoldLine, DropLine, JudgeLine, ClearLine, ShowLine, TotalLine, WeighingLine}
+use Rattle.forms.proofs.Forms.{NoHold}
 use Rattle.parts.specs.Shape.{section_record}
-use Rattle.forms.specs.Shape.{hold_record, hold_request}
+use Rattle.forms.specs.Shape.{hold_record}
 use Rattle.request.specs.Shape.{request_of}
 use Rattle.items.proofs.Yields.{Each, Several}
 use Rattle.parts.proofs.Tidy.{part_yields}
@@ -44,38 +46,42 @@ section_eight : (v : ℕ) (cs : List Cell) → length cs ≤ 8 → Eight (sectio
 section_eight v cs h = padded_length no_cell 8 cs h
 
 -- ---- a request
-record Sized (r : Request) : Type 0 where
-  parts : length r.hold.parts ≡ 6
-  cells : (i : ℕ) → i < 6 → (p : Part) → Eight (get_or r.hold.parts i p)
-  values : length r.column.kn ≡ 10
+pub record SixPlaces (h : Hold) : Type 0 where
+  pub parts : length h.parts ≡ 6
+  pub cells : (i : ℕ) → i < 6 → (p : Part) → length (get_or h.parts i p).cells ≡ 8
 
-hold_sized : (n : ℕ) (m : Mode) (factor : ℕ) (ps : List Part) → Several Eight 6 ps → Sized (hold_request n (hold_record m factor ps))
+abbrev pub Sized : Request → Type 0
+Sized (HoldLine n h) = SixPlaces h
+Sized (ColumnLine k) = length k.kn ≡ 10
+Sized (ShipLine s) = Unit {0}
+Sized (LoadLine l) = Unit {0}
+Sized (DropLine n) = Unit {0}
+Sized JudgeLine = Unit {0}
+Sized ClearLine = Unit {0}
+Sized ShowLine = Unit {0}
+Sized TotalLine = Unit {0}
+Sized (WeighingLine w) = Unit {0}
+
+hold_sized : (n : ℕ) (m : Mode) (factor : ℕ) (ps : List Part) → Several Eight 6 ps → Sized (HoldLine n (hold_record m factor ps))
 hold_sized n m factor ps s =
     record {
       parts = padded_length no_part 6 ps s.most;
       cells = padded_each no_part Eight refl 6 ps s.every;
-      values = refl;
     }
 
-no_hold_sized : (k : Kind) (c : Column) → length c.kn ≡ 10 → Sized (record { kind = k; hold = no_hold; column = c })
-no_hold_sized k c ten =
-    record {
-      parts = refl;
-      cells = λ i h p. rw (get_or-replicate 6 i no_part p h);
-      values = ten;
-    }
+no_hold_sized : (r : Request) → NoHold r → Sized r
+no_hold_sized (ShipLine s) h = tt
+no_hold_sized (ColumnLine k) h = h
+no_hold_sized (LoadLine l) h = tt
+no_hold_sized (HoldLine n k) h = absurd h
+no_hold_sized (DropLine n) h = tt
+no_hold_sized JudgeLine h = tt
+no_hold_sized ClearLine h = tt
+no_hold_sized ShowLine h = tt
+no_hold_sized TotalLine h = tt
+no_hold_sized (WeighingLine w) h = tt
 
-request_sized : (ts : List Token) → Sized (request_of ts)
+pub request_sized : (ts : List Token) (r : Request) → request_of ts ≡ Some r → Sized r
 request_sized =
     request_has Sized (λ m. Eight)
-    (part_yields (λ m. Eight) section_eight section_eight (λ v. padded_length no_cell 8 [] (omega arith))) hold_sized
-    (λ k c other ten. no_hold_sized k c ten)
-
-pub hold_places_lem : (ts : List Token) → length (request_of ts).hold.parts ≡ 6
-hold_places_lem ts = (request_sized ts).parts
-
-pub cell_places_lem : (ts : List Token) (i : ℕ) → i < 6 → (p : Part) → length (get_or (request_of ts).hold.parts i p).cells ≡ 8
-cell_places_lem ts = (request_sized ts).cells
-
-pub column_values : (ts : List Token) → length (request_of ts).column.kn ≡ 10
-column_values ts = (request_sized ts).values
+    (part_yields (λ m. Eight) section_eight section_eight (λ v. padded_length no_cell 8 [] (omega arith))) hold_sized no_hold_sized

@@ -8,20 +8,21 @@ use native.Mathlib.Omega.{arith}
 use lib.ListN.{length}
 use Rattle.whole.specs.Lists.{within, all}
 use Rattle.whole.proofs.Lists.{and_true}
-use Rattle.record.specs.declared.Column.{Column}
 use Rattle.record.specs.declared.Mode.{Mode}
 use Rattle.record.specs.declared.Part.{Part}
-use Rattle.record.specs.Filler.{no_part, no_hold}
+use Rattle.record.specs.Filler.{no_part}
 use Rattle.limits.specs.Limits.{part_limits, hold_limits}
 use Rattle.text.specs.Token.{Token}
 use Rattle.items.proofs.Kept.{kept_within}
 use Rattle.items.proofs.Yields.{Each, Several}
 use Rattle.parts.specs.Carried.{carried_part}
 use Rattle.parts.proofs.Tidy.{kept_padded, padded_front, kept_each, KeptPart, part_tidy}
-use Rattle.forms.specs.declared.Kind.{Kind}
-use Rattle.forms.specs.declared.Kind.TheVariants.{HoldLine}
+use Rattle.record.specs.declared.Hold.{Hold}
+use Rattle.std.specs.Prelude.{Some}
 use Rattle.forms.specs.declared.Request.{Request}
-use Rattle.forms.specs.Shape.{hold_record, hold_request}
+use Rattle.forms.specs.declared.Request.TheVariants.{ShipLine, ColumnLine, LoadLine, HoldLine, DropLine, JudgeLine, ClearLine, ShowLine, TotalLine, WeighingLine}
+use Rattle.forms.proofs.Forms.{NoHold}
+use Rattle.forms.specs.Shape.{hold_record}
 use Rattle.request.specs.Shape.{request_of}
 use Rattle.forms.specs.Carried.{carried_hold}
 use Rattle.request.proofs.Lines.{request_has}
@@ -38,18 +39,36 @@ hold_stays m factor ps each e =
 
 -- ---- a request: its hold is kept within its limits
 abbrev Tidy : Request → Type 0
-Tidy r = hold_limits r.hold ≡ true → carried_hold r.hold ≡ r.hold
+Tidy (HoldLine n h) = hold_limits h ≡ true → carried_hold h ≡ h
+Tidy (ShipLine s) = Unit {0}
+Tidy (ColumnLine k) = Unit {0}
+Tidy (LoadLine l) = Unit {0}
+Tidy (DropLine n) = Unit {0}
+Tidy JudgeLine = Unit {0}
+Tidy ClearLine = Unit {0}
+Tidy ShowLine = Unit {0}
+Tidy TotalLine = Unit {0}
+Tidy (WeighingLine w) = Unit {0}
 
-hold_tidy : (n : ℕ) (m : Mode) (factor : ℕ) (ps : List Part) → Several (KeptPart m) 6 ps → Tidy (hold_request n (hold_record m factor ps))
+hold_tidy : (n : ℕ) (m : Mode) (factor : ℕ) (ps : List Part) → Several (KeptPart m) 6 ps → Tidy (HoldLine n (hold_record m factor ps))
 hold_tidy n m factor ps s = hold_stays m factor ps s.every
 
 -- any other line has no hold
-unheld : (k : Kind) (c : Column) → ((n : ℕ) → k ≡ HoldLine n → ◌≡◌ {A = ℕ} 0 1) → length c.kn ≡ 10 → Tidy (record { kind = k; hold = no_hold; column = c })
-unheld k c other ten e = refl
+unheld : (r : Request) → NoHold r → Tidy r
+unheld (ShipLine s) h = tt
+unheld (ColumnLine k) h = tt
+unheld (LoadLine l) h = tt
+unheld (HoldLine n k) h = absurd h
+unheld (DropLine n) h = tt
+unheld JudgeLine h = tt
+unheld ClearLine h = tt
+unheld ShowLine h = tt
+unheld TotalLine h = tt
+unheld (WeighingLine w) h = tt
 
-request_tidy : (ts : List Token) → Tidy (request_of ts)
+request_tidy : (ts : List Token) (r : Request) → request_of ts ≡ Some r → Tidy r
 request_tidy = request_has Tidy KeptPart part_tidy hold_tidy unheld
 
 -- a hold that is read is carried as it is within its limits
-pub kept_hold : (ts : List Token) → hold_limits (request_of ts).hold ≡ true → carried_hold (request_of ts).hold ≡ (request_of ts).hold
-kept_hold = request_tidy
+pub kept_hold : (ts : List Token) (n : ℕ) (h : Hold) → request_of ts ≡ Some (HoldLine n h) → hold_limits h ≡ true → carried_hold h ≡ h
+kept_hold ts n h = request_tidy ts (HoldLine n h)

@@ -5,10 +5,9 @@ use Prim.Native.String.{String}
 use Rattle.record.specs.declared.Weighing.TheVariants.{Weight, Weighed, Unweigh}
 use Rattle.text.specs.Token.{Token}
 use Rattle.items.specs.Grammar.{Parsed, got, ◌and_then◌, head?, is, named, behind?, number?, nth, last_numbers?, whole?}
-use Rattle.forms.specs.declared.Kind.{Kind}
-use Rattle.forms.specs.declared.Kind.TheVariants.{ShipLine, ColumnLine, LoadLine, HoldLine, DropLine, JudgeLine, ClearLine, ShowLine, TotalLine, WeighingLine, NoShape}
 use Rattle.forms.specs.declared.Request.{Request}
-use Rattle.forms.specs.Shape.{plain, bare?, form_word, form_by, form?}
+use Rattle.forms.specs.declared.Request.TheVariants.{ShowLine, TotalLine, WeighingLine}
+use Rattle.forms.specs.Shape.{bare?, form_word, form_by, form?}
 use Rattle.request.specs.declared.LineWord.{LineWord}
 use Rattle.request.specs.declared.LineWord.TheVariants.{OfForm, TotalWord, WeightWord, WeighedWord, UnweighWord}
 
@@ -21,10 +20,10 @@ unfoldable pub weight? : List Token → Parsed Request
 weight? ts =
     number? ts and_then λ t us.
     last_numbers? 1 us and_then λ v ws.
-    got (plain (WeighingLine (Weight (record { tonnes = t; height = nth v 0 })))) ws
+    got (WeighingLine (Weight (record { tonnes = t; height = nth v 0 }))) ws
 
 unfoldable pub weighed? : List Token → Parsed Request
-weighed? ts = last_numbers? 1 ts and_then λ v us. got (plain (WeighingLine (Weighed (nth v 0)))) us
+weighed? ts = last_numbers? 1 ts and_then λ v us. got (WeighingLine (Weighed (nth v 0))) us
 
 -- a line but show, by its first word: the lines that no show takes, and document 01's forms; and the shape of what stands behind the word
 abbrev pub line_words : List (String × Option LineWord)
@@ -44,20 +43,6 @@ line_by UnweighWord ts = bare? (WeighingLine Unweigh) ts
 unfoldable pub line? : List Token → Parsed Request
 line? ts = head? ts and_then λ r us. cond (is r "show") (show? us) (behind? line_by (line_word r) us)
 
--- the request of a line's tokens
-unfoldable pub request_of : List Token → Request
-request_of ts = whole? (line? ts) (plain NoShape)
-
--- the code of each kind: 14 where a line is none of the shapes
-abbrev pub kind_code : Kind → ℕ
-kind_code (ShipLine s) = 0
-kind_code ColumnLine = 0
-kind_code (LoadLine l) = 0
-kind_code (HoldLine n) = 0
-kind_code (DropLine n) = 0
-kind_code JudgeLine = 0
-kind_code ClearLine = 0
-kind_code ShowLine = 0
-kind_code TotalLine = 0
-kind_code (WeighingLine w) = 0
-kind_code NoShape = 14
+-- the request of a line's tokens; none where they are no shape
+unfoldable pub request_of : List Token → Option Request
+request_of ts = whole? (line? ts)

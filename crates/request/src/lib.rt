@@ -1,14 +1,14 @@
 // The shapes of lines: which form a line is or shows, and its record (code 14).
 #![tactic(auto)]
 
-ghost use Rattle.std.specs.Prelude.{◌≡◌};
+ghost use Rattle.std.specs.Prelude.{◌≡◌, option_map};
 ghost use Rattle.text.specs.Token.{tokens};
 ghost use Rattle.items.specs.Carried.{carry};
 ghost use Rattle.items.specs.Reads.{read_of};
 ghost use Rattle.forms.specs.Carried.{carried_request};
 ghost use Rattle.request.specs.Shape.{show?, weight?, weighed?, line_word, line_by, line?, request_of};
 
-use forms::{FormWord, Kind, Request};
+use forms::{FormWord, Request};
 use record::{Weighing, WeightItem};
 
 // A line but show by its word: one of document 01's forms, or one that no show takes.
@@ -27,7 +27,7 @@ fn show<'a>(s: &'a [u8]) -> Option<(Request, &'a [u8])>
 {
     let (word, rest) = items::head(s)?;
     let (_, rest) = forms::form_by(forms::form_word(word)?, rest)?;
-    forms::bare(Kind::ShowLine, rest)
+    forms::bare(Request::ShowLine, rest)
 }
 
 // `T H)`
@@ -37,10 +37,7 @@ fn weight<'a>(s: &'a [u8]) -> Option<(Request, &'a [u8])>
     let (tonnes, rest) = items::number(s)?;
     let ([height], rest) = items::last_sizes::<1>(rest)?;
     let item = WeightItem { tonnes, height };
-    Some((
-        forms::plain(Kind::WeighingLine(Weighing::Weight(item))),
-        rest,
-    ))
+    Some((Request::WeighingLine(Weighing::Weight(item)), rest))
 }
 
 // `FS)`
@@ -48,10 +45,7 @@ fn weighed<'a>(s: &'a [u8]) -> Option<(Request, &'a [u8])>
     ensures { carry carried_request (weighed? (tokens s.now)) ≡ read_of result }
 {
     let ([fs], rest) = items::last_sizes::<1>(s)?;
-    Some((
-        forms::plain(Kind::WeighingLine(Weighing::Weighed(fs))),
-        rest,
-    ))
+    Some((Request::WeighingLine(Weighing::Weighed(fs)), rest))
 }
 
 // A line but show by its word.
@@ -80,10 +74,10 @@ fn line_by<'a>(word: LineWord, s: &'a [u8]) -> Option<(Request, &'a [u8])>
 {
     match word {
         LineWord::OfForm(form) => forms::form_by(form, s),
-        LineWord::TotalWord => forms::bare(Kind::TotalLine, s),
+        LineWord::TotalWord => forms::bare(Request::TotalLine, s),
         LineWord::WeightWord => weight(s),
         LineWord::WeighedWord => weighed(s),
-        LineWord::UnweighWord => forms::bare(Kind::WeighingLine(Weighing::Unweigh), s),
+        LineWord::UnweighWord => forms::bare(Request::WeighingLine(Weighing::Unweigh), s),
     }
 }
 
@@ -99,14 +93,12 @@ fn read_line<'a>(s: &'a [u8]) -> Option<(Request, &'a [u8])>
 }
 
 // The request of a line: what it is, or shows, with nothing behind it.
-pub fn request_of(line: &[u8]) -> Request
-    ensures { result ≡ carried_request (request_of (tokens line.now)) }
+pub fn request_of(line: &[u8]) -> Option<Request>
+    ensures { result ≡ option_map carried_request (request_of (tokens line.now)) }
 {
-    let Some((request, rest)) = read_line(line) else {
-        return forms::plain(Kind::NoShape);
-    };
+    let (request, rest) = read_line(line)?;
     if items::is_end(rest) {
-        return request;
+        return Some(request);
     }
-    forms::plain(Kind::NoShape)
+    None
 }

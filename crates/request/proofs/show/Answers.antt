@@ -4,7 +4,7 @@ use mathlib.Core.Path.{refl, sym, ◌∙◌}
 use Rattle.std.specs.Prelude.{Some}
 use Rattle.text.specs.Token.{tokens}
 use Rattle.items.proofs.Walks.{carries, carries_none}
-use Rattle.forms.specs.declared.Kind.TheVariants.{ShowLine}
+use Rattle.forms.specs.declared.Request.TheVariants.{ShowLine}
 use Rattle.forms.specs.Shape.{form_word, form_by, form?}
 use Rattle.forms.specs.Carried.{carried_request}
 use Rattle.forms.proofs.Records.{bare_kept}
@@ -35,4 +35,4 @@ returns c =
     let n : form_word r.word.now ≡ Some w = sym c.form_word.ensures ∙ c.in_ok-form_word.was in
     let us = tokens c.in_ok-rest.rest.now in
     let i = carries carried_request (form_by w (tokens r.rest.now)) c.in_ok-rest.field-0-0 us c.in_ok-rest.ensures in
-    rw (r.ensures, n, i.is, bare_kept ShowLine us refl) c.bare.ensures
+    rw (r.ensures, n, i.is, bare_kept ShowLine us (unfold carried_request in refl)) c.bare.ensures

@@ -6,8 +6,7 @@ use Rattle.text.specs.Token.{tokens}
 use Rattle.items.specs.Grammar.{nth, last_numbers?}
 use Rattle.items.specs.Carried.{carried}
 use Rattle.items.proofs.Walks.{built, nth_kept}
-use Rattle.forms.specs.declared.Kind.TheVariants.{WeighingLine}
-use Rattle.forms.specs.Shape.{plain}
+use Rattle.forms.specs.declared.Request.TheVariants.{WeighingLine}
 use Rattle.forms.specs.Carried.{carried_request}
 use Rattle.request.specs.Shape.{weighed?}
 use Rattle.request.proofs.weighed.Goals as goal
@@ -20,5 +19,5 @@ pub returns : goal.returns
 unfolding weighed? carried_request
 returns c =
     let r = c.in_ok-fs in
-    built carried_request (λ x. plain (WeighingLine (Weighed (nth x 0)))) (map carried) (last_numbers? 1 (tokens c.args.s.now)) r.field-0-0 (tokens r.rest.now) _ r.ensures
-    (λ x e. rw (c.plain.ensures, nth_kept r.field-0-0 x 0 e))
+    built carried_request (λ x. WeighingLine (Weighed (nth x 0))) (map carried) (last_numbers? 1 (tokens c.args.s.now)) r.field-0-0 (tokens r.rest.now) _ r.ensures
+    (λ x e. rw (nth_kept r.field-0-0 x 0 e))

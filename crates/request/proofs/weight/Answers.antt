@@ -6,8 +6,7 @@ use Rattle.text.specs.Token.{tokens}
 use Rattle.items.specs.Grammar.{nth, last_numbers?}
 use Rattle.items.specs.Carried.{carried}
 use Rattle.items.proofs.Walks.{built, nth_kept}
-use Rattle.forms.specs.declared.Kind.TheVariants.{WeighingLine}
-use Rattle.forms.specs.Shape.{plain}
+use Rattle.forms.specs.declared.Request.TheVariants.{WeighingLine}
 use Rattle.forms.specs.Carried.{carried_request}
 use Rattle.request.specs.Shape.{weight?}
 use Rattle.request.proofs.weight.Goals as goal
@@ -25,5 +24,5 @@ unfolding weight? carried_request
 returns c =
     let r = c.in_ok-tonnes in
     let v = c.in_ok-height.field-0-0 in
-    rw r.ensures (built carried_request (λ x. plain (WeighingLine (Weight (record { tonnes = r.tonnes; height = nth x 0 })))) (map carried) (last_numbers? 1 (tokens r.rest.now)) v (tokens c.in_ok-height.rest.now) _ c.in_ok-height.ensures
-    (λ x e. rw (c.plain.ensures, nth_kept v x 0 e)))
+    rw r.ensures (built carried_request (λ x. WeighingLine (Weight (record { tonnes = r.tonnes; height = nth x 0 }))) (map carried) (last_numbers? 1 (tokens r.rest.now)) v (tokens c.in_ok-height.rest.now) _ c.in_ok-height.ensures
+    (λ x e. rw (nth_kept v x 0 e)))
