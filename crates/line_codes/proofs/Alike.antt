@@ -9,13 +9,16 @@ use lib.ListN.{length}
 use borrow.Author.Tests.{ltb-false, le-ltb}
 use Rattle.whole.specs.Lists.{all}
 use Rattle.text.specs.Token.{allowed, tokens}
-use Rattle.line_codes.specs.declared.Reading.TheVariants.{Sound, TooLong, BadByte, NotOneForm, BadNumber}
-use Rattle.line_codes.specs.Line.{deepest, one_form, sound_token, reading_of}
+use Rattle.std.specs.Prelude.{Ok, Err}
+use Rattle.line_codes.specs.declared.Fault.TheVariants.{TooLong, BadByte, NotOneForm, BadNumber}
+use Rattle.line_codes.specs.Line.{Reading, deepest, one_form, sound_token, reading_of}
 use Rattle.line_codes.specs.Alike.{AllowedLine, SameTokensSameReading}
 use Rattle.line_codes.proofs.Along.{form_alike}
 
-passes_by : (s : List ℕ) (w x y z : Bool) → ltb 2000 (length s) ≡ w → all allowed s ≡ x →
-    cond w TooLong (cond (not x) BadByte (cond (not y) NotOneForm (cond (not z) BadNumber Sound))) ≡ Sound → AllowedLine s × (z ≡ true)
+abbrev first_of : (long bytes form numbers : Bool) → Reading
+first_of w x y z = cond w (Err TooLong) (cond (not x) (Err BadByte) (cond (not y) (Err NotOneForm) (cond (not z) (Err BadNumber) (Ok tt))))
+
+passes_by : (s : List ℕ) (w x y z : Bool) → ltb 2000 (length s) ≡ w → all allowed s ≡ x → first_of w x y z ≡ Ok tt → AllowedLine s × (z ≡ true)
 passes_by s true x y z e f g =
     let z : ◌≡◌ {A = ℕ} 0 1 = cc in absurd (omega arith)
 passes_by s false false y z e f g =
@@ -26,7 +29,7 @@ passes_by s false true true false e f g =
     let z : ◌≡◌ {A = ℕ} 0 1 = cc in absurd (omega arith)
 passes_by s false true true true e f g = (record { long = ltb-false 2000 (length s) e; bytes = f }, refl)
 
-module _ (s : List ℕ) (e : reading_of s ≡ Sound) where
+module _ (s : List ℕ) (e : reading_of s ≡ (Ok tt)) where
   passes : AllowedLine s × (all sound_token (tokens s) ≡ true)
   unfolding reading_of
   passes = passes_by s (ltb 2000 (length s)) (all allowed s) (one_form (deepest (tokens s)) s) (all sound_token (tokens s)) refl refl e

@@ -8,8 +8,9 @@ use lib.Dec.{ltb}
 use lib.ListN.{length}
 use borrow.Author.Tests.{ltb-true, ltb-false}
 use Rattle.whole.specs.Lists.{all}
-use Rattle.line_codes.specs.declared.Reading.{Reading}
-use Rattle.line_codes.specs.declared.Reading.TheVariants.{Sound, TooLong, BadByte, NotOneForm, BadNumber}
+use Rattle.line_codes.specs.Line.{Reading}
+use Rattle.std.specs.Prelude.{Ok, Err}
+use Rattle.line_codes.specs.declared.Fault.TheVariants.{TooLong, BadByte, NotOneForm, BadNumber}
 use Rattle.text.specs.Token.{allowed, tokens}
 use Rattle.line_codes.specs.Line.{is_show, deepest, one_form, reading_of, reading_code}
 use Rattle.line_codes.specs.Codes.{Nested, four, five, NoNumber, LineCode}
@@ -36,7 +37,7 @@ clash e = let z : ◌≡◌ {A = ℕ} 0 1 = cc in absurd (omega arith)
 
 -- the tests of a line: longer, each byte, one form, each number
 abbrev first_of : (long bytes form numbers : Bool) → Reading
-first_of l b f n = cond l TooLong (cond (not b) BadByte (cond (not f) NotOneForm (cond (not n) BadNumber Sound)))
+first_of l b f n = cond l (Err TooLong) (cond (not b) (Err BadByte) (cond (not f) (Err NotOneForm) (cond (not n) (Err BadNumber) (Ok tt))))
 
 module _ (s : List ℕ) where
   abbrev Codes : Reading → Type 0

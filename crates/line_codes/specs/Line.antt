@@ -1,9 +1,9 @@
 -- Document 01, Codes, Every line: 10 to 13, each test made over the entire line before the next; document 02, P2: five deep behind `show`.
-use Rattle.std.specs.Prelude.{Bool, true, false, cond, not, ◌||◌, List, [], ◌∷◌, ℕ, zero, suc, ◌-◌, eqb, ltb, length}
+use Rattle.std.specs.Prelude.{Bool, true, false, cond, not, ◌||◌, List, [], ◌∷◌, ℕ, zero, suc, ◌-◌, eqb, ltb, length, Result, Ok, Err}
 use Rattle.whole.specs.Bytes.{bytes}
 use Rattle.whole.specs.Lists.{all}
-use Rattle.line_codes.specs.declared.Reading.{Reading}
-use Rattle.line_codes.specs.declared.Reading.TheVariants.{Sound, TooLong, BadByte, NotOneForm, BadNumber}
+use Rattle.line_codes.specs.declared.Fault.{Fault}
+use Rattle.line_codes.specs.declared.Fault.TheVariants.{TooLong, BadByte, NotOneForm, BadNumber, NoShape}
 use Rattle.text.specs.Token.{space, opening, closing, is_digit, allowed, Token, opened, closed, run, tokens, same, is_number}
 
 -- 12: where one stands on a walk along a line: before its form, inside it with this many brackets open, behind it; or the line
@@ -74,18 +74,26 @@ is_show (run r ∷ ts) = false
 abbrev pub deepest : List Token → ℕ
 deepest ts = cond (is_show ts) 5 4
 
+-- what the tests of a whole line find: they pass, or why the line is turned down
+abbrev pub Reading : Type 0
+Reading = Result (Unit {0}) Fault
+
 -- the first test that a line fails
 unfoldable pub reading_of : List ℕ → Reading
 reading_of s =
-    cond (ltb longest (length s)) TooLong
-    (cond (not (all allowed s)) BadByte
-    (cond (not (one_form (deepest (tokens s)) s)) NotOneForm
-    (cond (not (all sound_token (tokens s))) BadNumber Sound)))
+    cond (ltb longest (length s)) (Err TooLong)
+    (cond (not (all allowed s)) (Err BadByte)
+    (cond (not (one_form (deepest (tokens s)) s)) (Err NotOneForm)
+    (cond (not (all sound_token (tokens s))) (Err BadNumber) (Ok tt))))
 
--- the code of each
+-- the code of each fault, and of what the tests find; 14 is that of a line which is none of the shapes
+abbrev pub fault_code : Fault → ℕ
+fault_code TooLong = 10
+fault_code BadByte = 11
+fault_code NotOneForm = 12
+fault_code BadNumber = 13
+fault_code NoShape = 14
+
 abbrev pub reading_code : Reading → ℕ
-reading_code Sound = 0
-reading_code TooLong = 10
-reading_code BadByte = 11
-reading_code NotOneForm = 12
-reading_code BadNumber = 13
+reading_code (Ok u) = 0
+reading_code (Err f) = fault_code f

@@ -7,7 +7,7 @@ ghost use Rattle.whole.specs.Lists.{all};
 ghost use Rattle.text.specs.Token.{allowed, tokens};
 ghost use Rattle.text.specs.Front.{said};
 ghost use Rattle.line_codes.specs.declared.Part.TheVariants.{Inside, Behind};
-ghost use Rattle.line_codes.specs.Line.{deepest, one_form, number_if_digit, sound_token, reading_of, reading_code};
+ghost use Rattle.line_codes.specs.Line.{deepest, one_form, number_if_digit, sound_token, reading_of, fault_code};
 ghost use Rattle.line_codes.specs.Parts.{PartIs};
 
 use text::Piece;
@@ -21,14 +21,14 @@ const DEEPEST_IN_SHOW: usize = 5;
 
 const SHOW: &[u8] = b"show";
 
-// What the tests of a whole line find, in their order.
+// Why a line is turned down: a test of the whole line, in their order, or that it is none of the shapes.
 #[derive(Clone, Copy)]
-pub enum Reading {
-    Sound,
+pub enum Fault {
     TooLong,
     BadByte,
     NotOneForm,
     BadNumber,
+    NoShape,
 }
 
 // Which part of a line a place is in: before its form, inside it with this many brackets open, behind it.
@@ -154,33 +154,33 @@ fn all_sound(s: &[u8]) -> bool
 }
 
 // The first test that a line fails, each made over the entire line before the next.
-pub fn reading_of(line: &[u8]) -> Reading
+pub fn reading_of(line: &[u8]) -> Result<(), Fault>
     ensures { result ≡ reading_of line.now }
 {
     if LONGEST < line.len() {
-        return Reading::TooLong;
+        return Err(Fault::TooLong);
     }
     if !all_allowed(line) {
-        return Reading::BadByte;
+        return Err(Fault::BadByte);
     }
     if !one_form(line) {
-        return Reading::NotOneForm;
+        return Err(Fault::NotOneForm);
     }
     if !all_sound(line) {
-        return Reading::BadNumber;
+        return Err(Fault::BadNumber);
     }
-    Reading::Sound
+    Ok(())
 }
 
-// The paper's code for what the tests of a whole line find.
-pub fn reading_code(t: Reading) -> u8
-    ensures { result ≡ reading_code t }
+// The paper's code for each fault.
+pub fn fault_code(fault: Fault) -> u8
+    ensures { result ≡ fault_code fault }
 {
-    match t {
-        Reading::Sound => 0,
-        Reading::TooLong => 10,
-        Reading::BadByte => 11,
-        Reading::NotOneForm => 12,
-        Reading::BadNumber => 13,
+    match fault {
+        Fault::TooLong => 10,
+        Fault::BadByte => 11,
+        Fault::NotOneForm => 12,
+        Fault::BadNumber => 13,
+        Fault::NoShape => 14,
     }
 }
