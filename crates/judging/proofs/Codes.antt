@@ -14,17 +14,17 @@ use Rattle.record.specs.declared.Column.{Column}
 use Rattle.record.specs.Held.{held, last_d}
 use Rattle.record.specs.Filler.{no_column}
 use Rattle.columns.specs.Columns.{in_order}
-use Rattle.columns.specs.declared.Around.TheVariants.{Outside}
+use Rattle.std.specs.Prelude.{None, Ok, Err}
 use Rattle.columns.specs.Search.{columns_around}
 use Rattle.stability.specs.declared.Judgement.{Judgement}
 use Rattle.stability.specs.declared.Judgement.TheVariants.{Passed, ShortOfGm, ShortAtHeel, ShortBeyond, ShortOfArea}
 use Rattle.stability.specs.Verdict.{judgement_code, verdict_of}
 use Rattle.columns.proofs.Standing.{below_outside, above_outside}
 use Rattle.condition.specs.declared.Condition.{Condition}
-use Rattle.judging.specs.declared.Judged.{Judged}
-use Rattle.judging.specs.declared.Judged.TheVariants.{Refused, Given}
+use Rattle.judging.specs.declared.NotJudged.{NotJudged}
+use Rattle.judging.specs.declared.NotJudged.TheVariants.{NoShip, FewColumns, NoLoad, OutsideColumns, TooHeavy}
 use Rattle.total.specs.Total.{weight}
-use Rattle.judging.specs.Judge.{basis_at, judged_at, judged_of, judged_code}
+use Rattle.judging.specs.Judge.{Judged, basis_at, judged_at, judged_of, refusal_code, judged_code}
 use Rattle.judging.specs.Complete.{Ready}
 use Rattle.judging.specs.Codes.{JudgeCodes, CodesOfJudge}
 use Rattle.judging.proofs.Judging.{LimitsMet, ranges_sound, ready_around, ready_judged}
@@ -37,11 +37,11 @@ judgement_other ShortBeyond n p q e = omega arith
 judgement_other ShortOfArea n p q e = omega arith
 
 -- D below the first or above the last of two columns or more has none around it
-below_first : (d : ℕ) (ks : List Column) → in_order ks ≡ true → 2 ≤ length ks → d < (get_or ks 0 no_column).d → columns_around d ks ≡ Outside
+below_first : (d : ℕ) (ks : List Column) → in_order ks ≡ true → 2 ≤ length ks → d < (get_or ks 0 no_column).d → columns_around d ks ≡ None
 below_first d [] o n h = absurd (omega arith)
 below_first d (a ∷ ks) o n h = below_outside d a ks o h
 
-above_last : (d : ℕ) (ks : List Column) → in_order ks ≡ true → 2 ≤ length ks → last_d ks < d → columns_around d ks ≡ Outside
+above_last : (d : ℕ) (ks : List Column) → in_order ks ≡ true → 2 ≤ length ks → last_d ks < d → columns_around d ks ≡ None
 above_last d [] o n h = absurd (omega arith)
 above_last d (a ∷ ks) o n h = above_outside d a ks o h
 
@@ -52,13 +52,13 @@ module _ (c : Condition) (w : LimitsMet c) where
   abbrev code : ℕ
   code = judged_code (judged_of c)
 
-  coded : {n : ℕ} → judged_of c ≡ Refused n → code ≡ n
+  coded : {r : NotJudged} → judged_of c ≡ Err r → code ≡ refusal_code r
   coded e = ap judged_code e
 
   abbrev Outer : Type 0
   Outer = (c.load.d < (get_or columns 0 no_column).d) ⊎ (last_d columns < c.load.d)
 
-  no_ship_lem : c.shipped ≡ false → judged_of c ≡ Refused 30
+  no_ship_lem : c.shipped ≡ false → judged_of c ≡ Err NoShip
   unfolding judged_of
   no_ship_lem e = rw e
 
@@ -66,28 +66,28 @@ module _ (c : Condition) (w : LimitsMet c) where
   ready_not_outer r o = ⊎_elim (λ (h : c.load.d < (get_or columns 0 no_column).d). omega (arith, r.from_first)) (λ (h : last_d columns < c.load.d). omega (arith, r.to_last)) o
 
   module _ (s : c.shipped ≡ true) where
-    few_columns : length columns < 2 → judged_of c ≡ Refused 31
+    few_columns : length columns < 2 → judged_of c ≡ Err FewColumns
     unfolding judged_of
     few_columns h = rw (s, w.ship s, lt-leb 2 (length columns) h)
 
     module _ (two : 2 ≤ length columns) where
-      no_load_lem : c.loaded ≡ false → judged_of c ≡ Refused 32
+      no_load_lem : c.loaded ≡ false → judged_of c ≡ Err NoLoad
       unfolding judged_of
       no_load_lem e = rw (s, w.ship s, le-leb 2 (length columns) two, w.columns, e)
 
-      outside : c.loaded ≡ true → Outer → judged_of c ≡ Refused 33
+      outside : c.loaded ≡ true → Outer → judged_of c ≡ Err OutsideColumns
       unfolding judged_of
       outside l o =
-          let e : columns_around c.load.d columns ≡ Outside =
+          let e : columns_around c.load.d columns ≡ None =
           ⊎_elim (below_first c.load.d columns w.columns two) (above_last c.load.d columns w.columns two) o in
           rw (s, w.ship s, le-leb 2 (length columns) two, w.columns, l, w.load l, e)
 
   -- the verdict between the columns i and i + 1, or 34
   abbrev chosen : (i : ℕ) → Bool → Judged
-  chosen i x = cond x (Given (verdict_of c.ship (basis_at c i))) (Refused 34)
+  chosen i x = cond x (Ok (verdict_of c.ship (basis_at c i))) (Err TooHeavy)
 
   module _ (r : Ready c) where
-    too_heavy : 1000000000 < weight c → judged_of c ≡ Refused 34
+    too_heavy : 1000000000 < weight c → judged_of c ≡ Err TooHeavy
     too_heavy h =
         let a = ready_around c w r in
         ready_judged c w r ∙ ap (judged_at c) a.1 ∙ ap (chosen a.0) (lt-leb c.total 1000000000 (omega (arith, w.total)))
@@ -96,7 +96,7 @@ module _ (c : Condition) (w : LimitsMet c) where
     judged h n p q e =
         let a = ready_around c w r in
         let v = verdict_of c.ship (basis_at c a.0) in
-        let g : judged_of c ≡ Given v = ready_judged c w r ∙ ap (judged_at c) a.1 ∙ ap (chosen a.0) (le-leb c.total 1000000000 (omega (arith, w.total))) in
+        let g : judged_of c ≡ Ok v = ready_judged c w r ∙ ap (judged_at c) a.1 ∙ ap (chosen a.0) (le-leb c.total 1000000000 (omega (arith, w.total))) in
         judgement_other v.judgement n p q (sym (ap judged_code g) ∙ e)
 
   -- ---- the cases, each with the codes that it excludes

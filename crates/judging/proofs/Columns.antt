@@ -46,3 +46,6 @@ module _ (c : Condition) (i : ℕ) (b : Between c i) where
 
   pub between_places : InPlaces c.columns i
   between_places = in_places c.columns i b.places between_standing.place
+
+  pub between_below : i + 1 < 20
+  between_below = between_places.below

@@ -14,8 +14,7 @@ use Rattle.limits.specs.Limits.{ship_limits, load_limits, column_limits}
 use Rattle.limits.proofs.Ranges.{ship_range, load_range, column_range}
 use Rattle.record.specs.Held.{held, last_d}
 use Rattle.columns.specs.Columns.{in_order}
-use Rattle.columns.specs.declared.Around.{Around}
-use Rattle.columns.specs.declared.Around.TheVariants.{At, Outside}
+use Rattle.std.specs.Prelude.{Option, Some, None}
 use Rattle.columns.specs.Search.{columns_around}
 use Rattle.columns.proofs.Standing.{between_found}
 use Rattle.condition.specs.declared.Condition.{Condition}
@@ -24,11 +23,11 @@ use Rattle.judging.specs.Judge.{judged_at, judged_of}
 use Rattle.judging.specs.Complete.{InRanges, Ready}
 
 -- ---- of two columns or more, with D between the first and the last, two neighbours stand around it
-some_place : (d : ℕ) (ks : List Column) (x : Around) → 2 ≤ length ks → (get_or ks 0 no_column).d ≤ d → d ≤ last_d ks → columns_around d ks ≡ x → (i : ℕ) × (columns_around d ks ≡ At i)
+some_place : (d : ℕ) (ks : List Column) (x : Option ℕ) → 2 ≤ length ks → (get_or ks 0 no_column).d ≤ d → d ≤ last_d ks → columns_around d ks ≡ x → (i : ℕ) × (columns_around d ks ≡ Some i)
 some_place d [] x n f l e = absurd (omega arith)
 some_place d (a ∷ []) x n f l e = absurd (omega arith)
-some_place d (a ∷ b ∷ ks) (At i) n f l e = (i, e)
-some_place d (a ∷ b ∷ ks) Outside n f l e = absurd (between_found d a b ks f l e)
+some_place d (a ∷ b ∷ ks) (Some i) n f l e = (i, e)
+some_place d (a ∷ b ∷ ks) None n f l e = absurd (between_found d a b ks f l e)
 
 -- ---- columns in their ranges, each D above the one before
 in_order_lem : (ks : List Column) → ((i : ℕ) → i < length ks → column_limits (get_or ks i no_column) ≡ true) → ((i : ℕ) → i + 1 < length ks → (get_or ks i no_column).d < (get_or ks (i + 1) no_column).d) → in_order ks ≡ true
@@ -58,7 +57,7 @@ ranges_sound c r =
 
 -- judge comes to the columns around D
 module _ (c : Condition) (w : LimitsMet c) (r : Ready c) where
-  pub ready_around : (i : ℕ) × (columns_around c.load.d (held c.columns) ≡ At i)
+  pub ready_around : (i : ℕ) × (columns_around c.load.d (held c.columns) ≡ Some i)
   ready_around = some_place c.load.d (held c.columns) _ r.columns r.from_first r.to_last refl
 
   pub ready_judged : judged_of c ≡ judged_at c (columns_around c.load.d (held c.columns))

@@ -1,19 +1,18 @@
 -- Document 01, Judge: codes 30 to 34, and the verdict; W is the stored figure (document 02, P4), which is the sum over the holds in every
 -- condition within its limits. Where a stored record is outside its limits, which lines cannot bring about, the paper leaves the answer
 -- free: such a ship or load counts as none (30, 32), such columns as too few (31), and of the holds the figure alone is asked.
-use Rattle.std.specs.Prelude.{◌≡◌, true, cond, not, ◌&&◌, ℕ, suc, leb, length, get_or}
+use Rattle.std.specs.Prelude.{◌≡◌, true, cond, not, ◌&&◌, Option, Some, None, Result, Ok, Err, ℕ, suc, leb, length, get_or}
 use Rattle.limits.specs.Limits.{ship_limits, load_limits}
 use Rattle.record.specs.Held.{held}
 use Rattle.record.specs.Filler.{no_column}
 use Rattle.columns.specs.Columns.{in_order}
 use Rattle.arms.specs.declared.Basis.{Basis}
-use Rattle.columns.specs.declared.Around.{Around}
-use Rattle.columns.specs.declared.Around.TheVariants.{At, Outside}
 use Rattle.columns.specs.Search.{columns_around}
+use Rattle.stability.specs.declared.Verdict.{Verdict}
 use Rattle.stability.specs.Verdict.{judgement_code, verdict_of}
 use Rattle.condition.specs.declared.Condition.{Condition}
-use Rattle.judging.specs.declared.Judged.{Judged}
-use Rattle.judging.specs.declared.Judged.TheVariants.{Refused, Given}
+use Rattle.judging.specs.declared.NotJudged.{NotJudged}
+use Rattle.judging.specs.declared.NotJudged.TheVariants.{NoShip, FewColumns, NoLoad, OutsideColumns, TooHeavy}
 
 -- weight moments together above this are refused (34)
 abbrev pub greatest_weight : ℕ
@@ -29,26 +28,37 @@ basis_at c i =
       weight = c.total;
     }
 
+-- what judge answers: the verdict, or why there is none
+abbrev pub Judged : Type 0
+Judged = Result Verdict NotJudged
+
 -- with the columns around D found: 34, or the verdict
-abbrev pub judged_at : Condition → Around → Judged
-judged_at c Outside = Refused 33
-judged_at c (At i) = cond (leb c.total greatest_weight) (Given (verdict_of c.ship (basis_at c i))) (Refused 34)
+abbrev pub judged_at : Condition → Option ℕ → Judged
+judged_at c None = Err OutsideColumns
+judged_at c (Some i) = cond (leb c.total greatest_weight) (Ok (verdict_of c.ship (basis_at c i))) (Err TooHeavy)
 
 unfoldable pub judged_of : Condition → Judged
 judged_of c =
-    cond (not (c.shipped && ship_limits c.ship)) (Refused 30)
-    (cond (not (leb 2 (length (held c.columns)) && in_order (held c.columns))) (Refused 31)
-    (cond (not (c.loaded && load_limits c.load)) (Refused 32)
+    cond (not (c.shipped && ship_limits c.ship)) (Err NoShip)
+    (cond (not (leb 2 (length (held c.columns)) && in_order (held c.columns))) (Err FewColumns)
+    (cond (not (c.loaded && load_limits c.load)) (Err NoLoad)
     (judged_at c (columns_around c.load.d (held c.columns)))))
 
--- the code of judge's answer
+-- the code of each refusal, and of judge's answer
+abbrev pub refusal_code : NotJudged → ℕ
+refusal_code NoShip = 30
+refusal_code FewColumns = 31
+refusal_code NoLoad = 32
+refusal_code OutsideColumns = 33
+refusal_code TooHeavy = 34
+
 abbrev pub judged_code : Judged → ℕ
-judged_code (Refused code) = code
-judged_code (Given v) = judgement_code v.judgement
+judged_code (Ok v) = judgement_code v.judgement
+judged_code (Err r) = refusal_code r
 
 -- what judge knows before it asks for the weight: the columns i and i + 1 around D, all columns in order, a load within its limits
 pub record Between (c : Condition) (i : ℕ) : Type 0 where
   pub places : length c.columns.places ≡ 20
   pub ordered : in_order (held c.columns) ≡ true
-  pub around : columns_around c.load.d (held c.columns) ≡ At i
+  pub around : columns_around c.load.d (held c.columns) ≡ Some i
   pub load : load_limits c.load ≡ true

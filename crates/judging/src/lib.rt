@@ -1,36 +1,39 @@
 // Judge: the codes 30 to 34, and the verdict.
 #![tactic(auto)]
 
-ghost use Rattle.std.specs.Prelude.{◌≡◌, ◌&&◌, length, leb};
+ghost use Rattle.std.specs.Prelude.{◌≡◌, ◌&&◌, Some, length, leb};
 ghost use Rattle.record.specs.Held.{held};
 ghost use Rattle.columns.specs.Columns.{in_order};
 ghost use Rattle.stability.specs.Verdict.{judgement_code};
-ghost use Rattle.judging.specs.Judge.{judged_of, judged_at, Between};
+ghost use Rattle.judging.specs.Judge.{refusal_code, judged_of, judged_at, Between};
 
 use arms::Basis;
-use columns::Around;
 use condition::Condition;
-use record::{Column, Columns, Load, Rule, Ship};
+use record::{Column, Columns};
 use stability::{Judgement, Verdict};
 
 // The greatest weight moment that judge takes, in kg·m.
 const GREATEST_WEIGHT: u64 = 1000000000;
 
-// What judge answers: a refusal with its code, or a verdict.
-#[derive(Clone, Copy)]
-pub enum Judged {
-    Refused(u8),
-    Given(Verdict),
+// Why judge gives no verdict: codes 30 to 34.
+#[derive(Clone, Copy, Debug, PartialEq, Eq)]
+pub enum NotJudged {
+    NoShip,
+    FewColumns,
+    NoLoad,
+    OutsideColumns,
+    TooHeavy,
 }
 
 // Whether two columns are held, and all are in order.
+#[tactic(auto, using(crate::proofs::Columns::two_held))]
 fn enough_columns(cs: Columns) -> bool
     ensures { result ≡ (leb 2 (length (held cs)) && in_order (held cs)) }
 {
-    choice::both(2 <= cs.count, columns::in_order(cs))
+    2 <= cs.count && columns::in_order(cs)
 }
 
-// Gives the column back, for the prover: that it has ten KN is known of a parameter alone.
+// Gives the column back, for the prover: that it has ten KN is known of a parameter, and was not proved of an array's entry.
 fn of_ten(k: Column) -> Column
     ensures value { result ≡ k }
     ensures kn_len { length result.kn ≡ 10 }
@@ -39,51 +42,53 @@ fn of_ten(k: Column) -> Column
 }
 
 // The verdict between the columns i and i + 1, or 34.
-fn judge_between(c: Condition, i: usize) -> Judged
+#[tactic(auto, using(crate::proofs::Columns::between_below))]
+fn judge_between(c: Condition, i: usize) -> Result<Verdict, NotJudged>
     requires { Between c i }
-    ensures { result ≡ judged_at c (Around.At i) }
+    ensures { result ≡ judged_at c (Some i) }
 {
     let weight = c.total;
     if GREATEST_WEIGHT < weight {
-        return Judged::Refused(34);
+        return Err(NotJudged::TooHeavy);
     }
-    let columns = c.columns;
-    let first = columns.places[i];
-    let second = columns.places[i + 1];
-    let low = of_ten(first);
-    let high = of_ten(second);
-    let load = c.load;
-    let ship = c.ship;
     let b = Basis {
-        low,
-        high,
-        load,
+        low: of_ten(c.columns.places[i]),
+        high: of_ten(c.columns.places[i + 1]),
+        load: c.load,
         weight,
     };
-    Judged::Given(stability::judge(ship, b))
+    Ok(stability::judge(c.ship, b))
 }
 
 // 30 to 33 in their order, then 34 or the verdict.
-pub fn judge(c: Condition) -> Judged
+#[tactic(auto, unfolding(crate::specs::Judge::judged_of))]
+pub fn judge(c: Condition) -> Result<Verdict, NotJudged>
     ensures { result ≡ judged_of c }
 {
-    let ship = c.ship;
-    if !choice::both(c.shipped, limits::ship_limits(ship)) {
-        return Judged::Refused(30);
+    if !(c.shipped && limits::ship_limits(c.ship)) {
+        return Err(NotJudged::NoShip);
     }
-    let columns = c.columns;
-    if !enough_columns(columns) {
-        return Judged::Refused(31);
+    if !enough_columns(c.columns) {
+        return Err(NotJudged::FewColumns);
     }
-    let load = c.load;
-    if !choice::both(c.loaded, limits::load_limits(load)) {
-        return Judged::Refused(32);
+    if !(c.loaded && limits::load_limits(c.load)) {
+        return Err(NotJudged::NoLoad);
     }
-    let around = columns::columns_around(columns, load.d);
-    let Around::At(i) = around else {
-        return Judged::Refused(33);
-    };
+    let i = columns::columns_around(c.columns, c.load.d).ok_or(NotJudged::OutsideColumns)?;
     judge_between(c, i)
+}
+
+// The paper's code for each refusal.
+pub fn refusal_code(r: NotJudged) -> u8
+    ensures { result ≡ refusal_code r }
+{
+    match r {
+        NotJudged::NoShip => 30,
+        NotJudged::FewColumns => 31,
+        NotJudged::NoLoad => 32,
+        NotJudged::OutsideColumns => 33,
+        NotJudged::TooHeavy => 34,
+    }
 }
 
 // The paper's code for each judgement.

@@ -22,7 +22,8 @@ use Rattle.record.specs.Filler.{no_column, no_hold}
 use Rattle.limits.specs.Limits.{rise, ship_limits, load_limits, column_limits, hold_limits, place_limits, item_limits}
 use Rattle.limits.specs.Ranges.{ShipRange, LoadRange, ColumnRange}
 use Rattle.limits.proofs.Ranges.{ship_range, load_range, column_range, hold_range, place_range, item_range, rise_range}
-use Rattle.columns.specs.declared.Added.TheVariants.{Taken, Limits, Full, NotAbove}
+use Rattle.std.specs.Prelude.{Ok, Err}
+use Rattle.columns.specs.declared.NotAdded.TheVariants.{Limits, Full, NotAbove}
 use Rattle.columns.specs.Columns.{is_above, column_answer, added_code}
 use Rattle.columns.proofs.Adding.{above_is}
 use Rattle.grain.specs.Sum.{hold_fits}
@@ -73,7 +74,7 @@ both x y p q = (λ e. let t = and_true x y e in (p.0 t.0, q.0 t.1), λ (a, b). r
 module _ (ks : List Column) (k : Column) where
   by_answers :
       (l full above : Bool) → (l ≡ true) ↔ ColumnRange k → leb 20 (length ks) ≡ full → (above ≡ true) ↔ (0 < length ks → last_d ks < k.d) →
-      ColumnCodes ks k (added_code (cond (not l) Limits (cond full Full (cond above Taken NotAbove))))
+      ColumnCodes ks k (added_code (cond (not l) (Err Limits) (cond full (Err Full) (cond above (Ok tt) (Err NotAbove)))))
   by_answers false full above p f a =
       record {
         twenty = (λ e r. clash (p.1 r), λ g. refl);

@@ -14,8 +14,9 @@ use Rattle.record.specs.declared.Weighing.TheVariants.{Weight, Weighed, Unweigh}
 use Rattle.record.specs.Held.{held}
 use Rattle.record.specs.Filler.{no_hold, no_sums}
 use Rattle.limits.specs.Limits.{rise, ship_limits, load_limits, hold_limits, place_limits, item_limits}
-use Rattle.columns.specs.declared.Added.{Added}
-use Rattle.columns.specs.declared.Added.TheVariants.{Taken, Limits, Full, NotAbove}
+use Rattle.std.specs.Prelude.{Result, Ok, Err}
+use Rattle.columns.specs.declared.NotAdded.{NotAdded}
+use Rattle.columns.specs.declared.NotAdded.TheVariants.{Limits, Full, NotAbove}
 use Rattle.columns.specs.Columns.{column_answer, added_code, with_column}
 use Rattle.grain.specs.Sum.{hold_fits, weight_moment}
 use Rattle.weights.specs.Weights.{has_room, with_item, makes_load, weighed_load}
@@ -46,11 +47,11 @@ module _ (c : Condition) (x y : Bool) (after : Condition) (b : ℕ) where
       (t.0, (passed y (taken after) (refused_with b c) h t.1).0)
 
 -- of the answers to a column one has the code 00
-taken_code : (a : Added) → added_code a ≡ 0 → a ≡ Taken
-taken_code Taken e = refl
-taken_code Limits e = absurd (omega arith)
-taken_code Full e = absurd (omega arith)
-taken_code NotAbove e = absurd (omega arith)
+taken_code : (a : Result (Unit {0}) NotAdded) → added_code a ≡ 0 → a ≡ Ok tt
+taken_code (Ok done) e = refl
+taken_code (Err Limits) e = absurd (omega arith)
+taken_code (Err Full) e = absurd (omega arith)
+taken_code (Err NotAbove) e = absurd (omega arith)
 
 -- the tests of a hold
 pub record HoldPassed (n : ℕ) (h : Hold) : Type 0 where
@@ -76,17 +77,17 @@ module _ (c : Condition) where
   load_taken l e = rw e
 
   module _ (k : Column) where
-    pub change_code : (a : Added) → (column_change c k a).code ≡ added_code a
-    change_code Taken = refl
-    change_code Limits = refl
-    change_code Full = refl
-    change_code NotAbove = refl
+    pub change_code : (a : Result (Unit {0}) NotAdded) → (column_change c k a).code ≡ added_code a
+    change_code (Ok done) = refl
+    change_code (Err Limits) = refl
+    change_code (Err Full) = refl
+    change_code (Err NotAbove) = refl
 
-    pub column_passed : (column_operation c k).code ≡ 0 → column_answer (held c.columns) k ≡ Taken
+    pub column_passed : (column_operation c k).code ≡ 0 → column_answer (held c.columns) k ≡ Ok tt
     unfolding column_operation
     column_passed e = taken_code _ (sym (change_code (column_answer (held c.columns) k)) ∙ e)
 
-    pub column_taken : column_answer (held c.columns) k ≡ Taken → column_operation c k ≡ taken (with_columns c (with_column c.columns k))
+    pub column_taken : column_answer (held c.columns) k ≡ Ok tt → column_operation c k ≡ taken (with_columns c (with_column c.columns k))
     unfolding column_operation
     column_taken e = ap (column_change c k) e
 

@@ -12,8 +12,9 @@ use Rattle.record.specs.declared.Weighing.{Weighing}
 use Rattle.record.specs.declared.Weighing.TheVariants.{Weight, Weighed, Unweigh}
 use Rattle.record.specs.Held.{held}
 use Rattle.limits.specs.Limits.{rise, ship_limits, load_limits, hold_limits, place_limits, item_limits}
-use Rattle.columns.specs.declared.Added.{Added}
-use Rattle.columns.specs.declared.Added.TheVariants.{Taken, Limits, Full, NotAbove}
+use Rattle.std.specs.Prelude.{Result, Ok, Err}
+use Rattle.columns.specs.declared.NotAdded.{NotAdded}
+use Rattle.columns.specs.declared.NotAdded.TheVariants.{Limits, Full, NotAbove}
 use Rattle.columns.specs.Columns.{column_answer}
 use Rattle.grain.specs.Sum.{hold_fits}
 use Rattle.weights.specs.Weights.{has_room, makes_load}
@@ -60,12 +61,12 @@ module _ (c : Condition) where
   unfolding is_one_of load_operation
   load_right l = one_test c (load_limits l) _ refl refl
 
-  right_change : (k : Column) (a : Added) → Right (0 ∷ 20 ∷ 22 ∷ 23 ∷ []) c (column_change c k a)
+  right_change : (k : Column) (a : Result (Unit {0}) NotAdded) → Right (0 ∷ 20 ∷ 22 ∷ 23 ∷ []) c (column_change c k a)
   unfolding is_one_of
-  right_change k Taken = right_taken c _ refl
-  right_change k Limits = right_same c _ refl
-  right_change k Full = right_same c _ refl
-  right_change k NotAbove = right_same c _ refl
+  right_change k (Ok done) = right_taken c _ refl
+  right_change k (Err Limits) = right_same c _ refl
+  right_change k (Err Full) = right_same c _ refl
+  right_change k (Err NotAbove) = right_same c _ refl
 
   pub column_right : (k : Column) → Right (0 ∷ 20 ∷ 22 ∷ 23 ∷ []) c (column_operation c k)
   unfolding column_operation

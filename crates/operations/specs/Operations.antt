@@ -1,5 +1,5 @@
 -- Document 01, Codes, by operation, and document 02, P5: the code and the condition after. Every code but 00 leaves the condition unchanged.
-use Rattle.std.specs.Prelude.{cond, ◌&&◌, ℕ}
+use Rattle.std.specs.Prelude.{cond, ◌&&◌, Result, Ok, Err, ℕ}
 use Rattle.record.specs.declared.Ship.{Ship}
 use Rattle.record.specs.declared.Load.{Load}
 use Rattle.record.specs.declared.Column.{Column}
@@ -9,11 +9,10 @@ use Rattle.record.specs.declared.Weighing.TheVariants.{Weight, Weighed, Unweigh}
 use Rattle.record.specs.Held.{held}
 use Rattle.record.specs.Filler.{no_hold, no_sums}
 use Rattle.limits.specs.Limits.{rise, ship_limits, load_limits, hold_limits, place_limits, item_limits}
-use Rattle.columns.specs.declared.Added.{Added}
-use Rattle.columns.specs.declared.Added.TheVariants.{Taken, Limits, Full, NotAbove}
-use Rattle.columns.specs.Columns.{column_answer, added_code, with_column}
-use Rattle.grain.specs.declared.Weighed.{Weighed as HoldWeighed}
-use Rattle.grain.specs.declared.Weighed.TheVariants.{Limits as Outside}
+use Rattle.columns.specs.declared.NotAdded.{NotAdded}
+use Rattle.columns.specs.Columns.{column_answer, not_added_code, with_column}
+use Rattle.grain.specs.declared.NotWeighed.{NotWeighed}
+use Rattle.grain.specs.declared.NotWeighed.TheVariants.{Limits as Outside}
 use Rattle.grain.specs.Sum.{hold_fits, weight_moment, weighed_of}
 use Rattle.weights.specs.Weights.{has_room, with_item, makes_load, weighed_load}
 use Rattle.condition.specs.declared.Condition.{Condition}
@@ -40,11 +39,9 @@ unfoldable pub load_operation : Condition → Load → Change
 load_operation c l = cond (load_limits l) (taken (with_load c l)) (refused_with 20 c)
 
 -- Column: 20, 23, 22
-abbrev pub column_change : Condition → Column → Added → Change
-column_change c k Taken = taken (with_columns c (with_column c.columns k))
-column_change c k Limits = refused_with (added_code Limits) c
-column_change c k Full = refused_with (added_code Full) c
-column_change c k NotAbove = refused_with (added_code NotAbove) c
+abbrev pub column_change : Condition → Column → Result (Unit {0}) NotAdded → Change
+column_change c k (Ok done) = taken (with_columns c (with_column c.columns k))
+column_change c k (Err why) = refused_with (not_added_code why) c
 
 unfoldable pub column_operation : Condition → Column → Change
 column_operation c k = column_change c k (column_answer (held c.columns) k)
@@ -56,8 +53,8 @@ hold_operation c n h =
 
 -- the same as the program finds it: the answer of the hold's weighing, whose code is this one and whose moment goes into the figure
 -- (proofs/Taking.antt, hold_answered)
-unfoldable pub hold_answer : ℕ → Hold → HoldWeighed
-hold_answer n h = cond (place_limits n) (weighed_of h) Outside
+unfoldable pub hold_answer : ℕ → Hold → Result ℕ NotWeighed
+hold_answer n h = cond (place_limits n) (weighed_of h) (Err Outside)
 
 -- Drop: 20, 24
 unfoldable pub drop_operation : Condition → ℕ → Change

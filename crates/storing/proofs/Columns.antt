@@ -9,7 +9,7 @@ use lib.Seq.{length-take-le, take-suc-set}
 use Rattle.record.specs.declared.Column.{Column}
 use Rattle.record.specs.declared.Columns.{Columns}
 use Rattle.record.specs.Held.{held}
-use Rattle.columns.specs.declared.Added.TheVariants.{Taken}
+use Rattle.std.specs.Prelude.{Ok}
 use Rattle.columns.specs.Columns.{column_answer, with_column}
 use Rattle.storing.proofs.Taking.{taken_is}
 
@@ -20,7 +20,7 @@ pub record Fitting (cs : Columns) : Type 0 where
 pub held_length : (cs : Columns) → Fitting cs → length (held cs) ≡ cs.count
 held_length cs f = length-take-le cs.count cs.places (omega (arith, f.places, f.count))
 
-module _ (cs : Columns) (k : Column) (f : Fitting cs) (e : column_answer (held cs) k ≡ Taken) where
+module _ (cs : Columns) (k : Column) (f : Fitting cs) (e : column_answer (held cs) k ≡ Ok tt) where
   pub below_twenty : cs.count < 20
   below_twenty = omega (arith, (taken_is (held cs) k e).below, held_length cs f)
 

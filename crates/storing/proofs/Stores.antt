@@ -11,7 +11,7 @@ use Rattle.record.specs.declared.Hold.{Hold}
 use Rattle.record.specs.declared.WeightItem.{WeightItem}
 use Rattle.record.specs.Held.{held}
 use Rattle.record.specs.Filler.{no_hold, no_sums}
-use Rattle.columns.specs.declared.Added.TheVariants.{Taken}
+use Rattle.std.specs.Prelude.{Ok}
 use Rattle.columns.specs.Columns.{column_answer, with_column}
 use Rattle.weights.specs.Weights.{with_item, weighed_load}
 use Rattle.weights.proofs.Items.{kg_of_sums}
@@ -29,7 +29,7 @@ module _ (c : Condition) where
   load_put l = (refl, refl, (refl, refl), refl, (refl, refl), (refl, refl))
 
   -- a column taken in twenty places is the last one held
-  pub column_put : (k : Column) → column_answer (held c.columns) k ≡ Taken → ColumnStored c k (with_columns c (with_column c.columns k))
+  pub column_put : (k : Column) → column_answer (held c.columns) k ≡ Ok tt → ColumnStored c k (with_columns c (with_column c.columns k))
   column_put k t long =
       let b = (taken_is (held c.columns) k t).below in
       let n = length-take c.columns.count c.columns.places in

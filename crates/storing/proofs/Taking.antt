@@ -13,18 +13,17 @@ use Rattle.record.specs.declared.Hold.{Hold}
 use Rattle.record.specs.Filler.{no_hold}
 use Rattle.record.proofs.Taken.{past_hold}
 use Rattle.limits.specs.Limits.{column_limits, place_limits}
-use Rattle.columns.specs.declared.Added.{Added}
-use Rattle.columns.specs.declared.Added.TheVariants.{Taken, Limits, Full, NotAbove}
+use Rattle.std.specs.Prelude.{Result, Ok, Err}
+use Rattle.columns.specs.declared.NotAdded.{NotAdded}
+use Rattle.columns.specs.declared.NotAdded.TheVariants.{Limits, Full, NotAbove}
 use Rattle.columns.specs.Columns.{is_above, column_answer}
 
 -- what the answer 00 says of the three tests of a column: of its limits, of twenty held, of its D
-abbrev Says : (inside full above : Bool) → Added → Type 0
-Says x y z Taken = (x ≡ true) × (y ≡ false) × (z ≡ true)
-Says x y z Full = Unit {0}
-Says x y z Limits = Unit {0}
-Says x y z NotAbove = Unit {0}
+abbrev Says : (inside full above : Bool) → Result (Unit {0}) NotAdded → Type 0
+Says x y z (Ok done) = (x ≡ true) × (y ≡ false) × (z ≡ true)
+Says x y z (Err why) = Unit {0}
 
-says : (x y z : Bool) → Says x y z (cond (not x) Limits (cond y Full (cond z Taken NotAbove)))
+says : (x y z : Bool) → Says x y z (cond (not x) (Err Limits) (cond y (Err Full) (cond z (Ok tt) (Err NotAbove))))
 says true true z = tt
 says true false true = (refl, refl, refl)
 says true false false = tt
@@ -36,12 +35,12 @@ module _ (ks : List Column) (k : Column) where
     pub below : length ks < 20
     pub above : is_above k.d ks ≡ true
 
-  answer_says : (a : Added) → column_answer ks k ≡ a → Says (column_limits k) (leb 20 (length ks)) (is_above k.d ks) a
+  answer_says : (a : Result (Unit {0}) NotAdded) → column_answer ks k ≡ a → Says (column_limits k) (leb 20 (length ks)) (is_above k.d ks) a
   unfolding column_answer
   answer_says a e = rw e at (says (column_limits k) (leb 20 (length ks)) (is_above k.d ks))
 
-  pub taken_is : column_answer ks k ≡ Taken → ColumnPassed
-  taken_is e = let t = answer_says Taken e in record { limits = t.0; below = leb-false 20 (length ks) t.1; above = t.2 }
+  pub taken_is : column_answer ks k ≡ Ok tt → ColumnPassed
+  taken_is e = let t = answer_says (Ok tt) e in record { limits = t.0; below = leb-false 20 (length ks) t.1; above = t.2 }
 
 pub place_within : (n : ℕ) → place_limits n ≡ true → (1 ≤ n) × (n ≤ 16)
 place_within n e =
