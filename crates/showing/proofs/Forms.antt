@@ -5,23 +5,22 @@ use mathlib.Core.List.{List, [], ◌∷◌, ◌++◌, append-nil}
 use Prim.Native.Nat.{ℕ, ◌<◌}
 use native.Mathlib.Omega.{arith}
 use lib.Dec.{eqb}
+use Rattle.std.specs.Prelude.{Option, Some, None, option_map}
 use Rattle.whole.specs.Bytes.{bytes}
 use Rattle.record.specs.declared.Weighing.TheVariants.{Weight, Weighed, Unweigh}
+use Rattle.record.specs.declared.Mode.{Mode}
 use Rattle.text.specs.Token.{Token, opened, closed, run, same}
 use Rattle.text.proofs.Runs.{same_true}
-use Rattle.items.specs.Grammar.{Parsed, got, none, ◌and_then◌, open?, close?, run?, head?, is, named, number?, last_numbers?, several?, whole?}
-use Rattle.items.proofs.Yields.{Yields, yields, nothing, yields_then}
+use Rattle.items.specs.Grammar.{Parsed, got, none, ◌and_then◌, open?, close?, run?, head?, is, named, behind?, number?, last_numbers?, several?, whole?}
+use Rattle.items.proofs.Yields.{Yields, yields, nothing, yields_then, yields_behind}
 use Rattle.parts.specs.Shape.{part?}
-use Rattle.forms.specs.declared.RuleNamed.{RuleNamed}
-use Rattle.forms.specs.declared.RuleNamed.TheVariants.{Under, NoRule}
-use Rattle.forms.specs.declared.ModeNamed.{ModeNamed}
-use Rattle.forms.specs.declared.ModeNamed.TheVariants.{As, NoMode}
+use Rattle.forms.specs.declared.RuleWord.{RuleWord}
 use Rattle.forms.specs.declared.FormWord.{FormWord}
-use Rattle.forms.specs.declared.FormWord.TheVariants.{ShipWord, ColumnWord, LoadWord, HoldWord, DropWord, JudgeWord, ClearWord, NoWord}
+use Rattle.forms.specs.declared.FormWord.TheVariants.{ShipWord, ColumnWord, LoadWord, HoldWord, DropWord, JudgeWord, ClearWord}
 use Rattle.forms.specs.declared.Kind.{Kind}
 use Rattle.forms.specs.declared.Kind.TheVariants.{ShipLine, ColumnLine, LoadLine, HoldLine, DropLine, JudgeLine, ClearLine, ShowLine, TotalLine, WeighingLine, NoShape}
 use Rattle.forms.specs.declared.Request.{Request}
-use Rattle.forms.specs.Shape.{plain, rule_named, ship_by, ship?, column?, load?, mode_named, parts_by, parts?, hold?, drop?, bare?, form_word, form_by, form?}
+use Rattle.forms.specs.Shape.{plain, rule_named, ship_by, ship?, column?, load?, mode_named, parts?, hold?, drop?, bare?, form_word, form_by, form?}
 use Rattle.request.specs.declared.LineWord.{LineWord}
 use Rattle.request.specs.declared.LineWord.TheVariants.{OfForm, TotalWord, WeightWord, WeighedWord, UnweighWord}
 use Rattle.request.specs.Shape.{show?, weight?, weighed?, line_word, line_by, line?, request_of}
@@ -32,27 +31,24 @@ use Rattle.showing.proofs.Framing.{clash, form_frames}
 abbrev Of01 : Request → Type 0
 Of01 r = OfDocument01 r.kind
 
-hold_by : (n : ℕ) (m : ModeNamed) (ts : List Token) → Yields Of01 (parts_by n m ts)
+hold_by : (n : ℕ) (m : Mode) (ts : List Token) → Yields Of01 (parts? n m ts)
 unfolding parts?
-hold_by n (As m) ts = yields_then (number? ts) (λ f us. yields_then (several? 6 (part? m) us) (λ ps ws. yields hold))
-hold_by n NoMode ts = nothing
+hold_by n m ts = yields_then (number? ts) (λ f us. yields_then (several? 6 (part? m) us) (λ ps ws. yields hold))
 
-ship_by_lem : (r : RuleNamed) (ts : List Token) → Yields Of01 (ship_by r ts)
-ship_by_lem (Under w) ts = yields_then (last_numbers? 2 ts) (λ v us. yields ship)
-ship_by_lem NoRule ts = nothing
+ship_by_lem : (w : RuleWord) (ts : List Token) → Yields Of01 (ship_by w ts)
+ship_by_lem w ts = yields_then (last_numbers? 2 ts) (λ v us. yields ship)
 
 form_by_lem : (w : FormWord) (ts : List Token) → Yields Of01 (form_by w ts)
 unfolding ship? column? load? hold? drop? bare?
-form_by_lem ShipWord ts = yields_then (run? ts) (λ r us. ship_by_lem (rule_named r) us)
+form_by_lem ShipWord ts = yields_then (run? ts) (λ r us. yields_behind (rule_named r) ship_by_lem us)
 form_by_lem ColumnWord ts =
     yields_then (number? ts) (λ d t1. yields_then (number? t1) (λ km t2. yields_then (open? t2) (λ u t3.
     yields_then (last_numbers? 10 t3) (λ kn t4. yields_then (close? t4) (λ u t5. yields column)))))
 form_by_lem LoadWord ts = yields_then (number? ts) (λ d us. yields_then (last_numbers? 2 us) (λ v ws. yields load))
-form_by_lem HoldWord ts = yields_then (number? ts) (λ n us. yields_then (run? us) (λ r ws. hold_by n (mode_named r) ws))
+form_by_lem HoldWord ts = yields_then (number? ts) (λ n us. yields_then (run? us) (λ r ws. yields_behind (mode_named r) (hold_by n) ws))
 form_by_lem DropWord ts = yields_then (number? ts) (λ n us. yields_then (close? us) (λ u ws. yields drop))
 form_by_lem JudgeWord ts = yields_then (close? ts) (λ u us. yields judge)
 form_by_lem ClearWord ts = yields_then (close? ts) (λ u us. yields clear)
-form_by_lem NoWord ts = nothing
 
 yielded : (P : Request → Type 0) {r : Parsed Request} (a : Request) (us : List Token) → Yields P r → r ≡ got a us → P a
 yielded P a us (yields {a = b} p) e = let t : b ≡ a = cc in rw (← t) p
@@ -60,7 +56,7 @@ yielded P a us nothing e = let z : ◌≡◌ {A = ℕ} 0 1 = cc in absurd (omega
 
 form_kind : (ts : List Token) (a : Request) (us : List Token) → form? ts ≡ got a us → Of01 a
 unfolding form?
-form_kind ts a us e = yielded Of01 a us (yields_then (head? ts) (λ r ws. form_by_lem (form_word r) ws)) e
+form_kind ts a us e = yielded Of01 a us (yields_then (head? ts) (λ r ws. yields_behind (form_word r) form_by_lem ws)) e
 
 -- the kinds by their lines: one of these, a show, none, and each that no show takes
 abbrev pub sort_of : Kind → ℕ
@@ -133,9 +129,13 @@ own_kind : (w : LineWord) (vs : List Token) (a : Request) (us : List Token) → 
 own_kind w vs a us own e = yielded (λ r. sort_of r.kind ≡ own_sort w) a us (own_yields w vs own) e
 
 -- a run names such a line, or a form
-data Named (r : List ℕ) : LineWord → Type 0 where
-  by_word : {w : LineWord} → 0 < own_sort w → r ≡ own_word w → Named r w
-  by_form : {w : LineWord} → w ≡ OfForm (form_word r) → Named r w
+data Named (r : List ℕ) : Option LineWord → Type 0 where
+  by_word : {w : LineWord} → 0 < own_sort w → r ≡ own_word w → Named r (Some w)
+  by_form : {w : Option LineWord} → w ≡ option_map OfForm (form_word r) → Named r w
+
+of_form : (w : Option FormWord) (ts : List Token) → behind? line_by (option_map OfForm w) ts ≡ behind? form_by w ts
+of_form (Some w) ts = refl
+of_form None ts = refl
 
 named_as : (r : List ℕ) → Named r (line_word r)
 unfolding named
@@ -145,7 +145,7 @@ named_as r =
     (by (is r "weighed") (λ e. by_word (omega arith) (same_true r (bytes "weighed") e))
     (by (is r "unweigh") (λ e. by_word (omega arith) (same_true r (bytes "unweigh") e)) (by_form refl))))
   where
-    by : (x : Bool) {v w : LineWord} → (x ≡ true → Named r v) → Named r w → Named r (cond x v w)
+    by : (x : Bool) {v w : Option LineWord} → (x ≡ true → Named r v) → Named r w → Named r (cond x v w)
     by true p q = p refl
     by false p q = q
 
@@ -164,16 +164,16 @@ read_line (opened ∷ opened ∷ ts) a us e = clash e
 read_line (opened ∷ closed ∷ ts) a us e = clash e
 read_line (opened ∷ run r ∷ ts) a us e = by (is r "show") refl e
   where
-    no_show : (w : LineWord) → Named r w → line_by w ts ≡ got a us → Read (opened ∷ run r ∷ ts) a us
-    no_show w (by_word s p) e = an_own w ts (own_kind w ts a us s e) s (ap (λ q. opened ∷ run q ∷ ts) p) e
-    no_show w (by_form p) e = a_form (rw p at e)
+    no_show : (w : Option LineWord) → Named r w → behind? line_by w ts ≡ got a us → Read (opened ∷ run r ∷ ts) a us
+    no_show (Some w) (by_word s p) e = an_own w ts (own_kind w ts a us s e) s (ap (λ q. opened ∷ run q ∷ ts) p) e
+    no_show w (by_form p) e = a_form (sym (of_form (form_word r) ts) ∙ rw p at e)
 
-    by : (x : Bool) → is r "show" ≡ x → cond x (show? ts) (line_by (line_word r) ts) ≡ got a us → Read (opened ∷ run r ∷ ts) a us
+    by : (x : Bool) → is r "show" ≡ x → cond x (show? ts) (behind? line_by (line_word r) ts) ≡ got a us → Read (opened ∷ run r ∷ ts) a us
     by true p w = a_show ts (ap (λ q. opened ∷ run q ∷ ts) (same_true r (bytes "show") p)) w
     by false p w = no_show (line_word r) (named_as r) w
 
 -- a word of its own is no form's
-own_none : (w : LineWord) → 0 < own_sort w → form_word (own_word w) ≡ NoWord
+own_none : (w : LineWord) → 0 < own_sort w → form_word (own_word w) ≡ None
 unfolding named same
 own_none (OfForm w) own = absurd (omega arith)
 own_none TotalWord own = refl
@@ -191,14 +191,14 @@ form_line (opened ∷ opened ∷ ts) a us e = clash e
 form_line (opened ∷ closed ∷ ts) a us e = clash e
 form_line (opened ∷ run r ∷ ts) a us e = by (is r "show") refl
   where
-    no_show : is r "show" ≡ true → form_word r ≡ NoWord
+    no_show : is r "show" ≡ true → form_word r ≡ None
     no_show p = rw (same_true r (bytes "show") p)
 
-    other : (w : LineWord) → Named r w → line_by w ts ≡ got a us
-    other w (by_word s p) = clash (rw (p, own_none w s) at e)
-    other w (by_form p) = rw p e
+    other : (w : Option LineWord) → Named r w → behind? line_by w ts ≡ got a us
+    other (Some w) (by_word s p) = clash (rw (p, own_none w s) at e)
+    other w (by_form p) = rw p (of_form (form_word r) ts ∙ e)
 
-    by : (x : Bool) → is r "show" ≡ x → cond x (show? ts) (line_by (line_word r) ts) ≡ got a us
+    by : (x : Bool) → is r "show" ≡ x → cond x (show? ts) (behind? line_by (line_word r) ts) ≡ got a us
     by true p = clash (rw (no_show p) at e)
     by false p = other (line_word r) (named_as r)
 

@@ -4,27 +4,22 @@ use mathlib.Core.Bool.{Bool, true, false, cond}
 use mathlib.Core.List.{List, [], ◌∷◌, ◌++◌, append_assoc}
 use Prim.Native.Nat.{ℕ, zero, suc}
 use native.Mathlib.Omega.{arith}
+use Rattle.std.specs.Prelude.{Option, Some, None}
 use Rattle.record.specs.declared.Mode.{Mode}
 use Rattle.record.specs.declared.Mode.TheVariants.{Trimmed, Voided, Partial}
 use Rattle.record.specs.declared.Cell.{Cell}
 use Rattle.record.specs.declared.Part.{Part}
-use Rattle.text.specs.declared.Number.{Number}
-use Rattle.text.specs.declared.Number.TheVariants.{Is, Bad}
 use Rattle.text.specs.Token.{Token, opened, closed, run, number_of}
-use Rattle.items.specs.Grammar.{Parsed, got, none, ◌and_then◌, open?, close?, run?, head?, is, got_number, number?, numbers?, nth, last_numbers?, items?, some_of, several?}
-use Rattle.parts.specs.declared.CellNamed.{CellNamed}
-use Rattle.parts.specs.declared.CellNamed.TheVariants.{As, NoWord}
+use Rattle.items.specs.Grammar.{Parsed, got, none, ◌and_then◌, open?, close?, run?, head?, is, behind?, number?, numbers?, nth, last_numbers?, items?, some_of, several?}
+use Rattle.parts.specs.declared.CellWord.{CellWord}
 use Rattle.parts.specs.Shape.{cell_named, numbers_of, cell_of, cell_by, cell?, section_record, slack_record, section?, slack?, body?, part?}
-use Rattle.forms.specs.declared.RuleNamed.{RuleNamed}
-use Rattle.forms.specs.declared.RuleNamed.TheVariants.{Under, NoRule}
-use Rattle.forms.specs.declared.ModeNamed.{ModeNamed}
-use Rattle.forms.specs.declared.ModeNamed.TheVariants.{As as Mode-as-As, NoMode}
+use Rattle.forms.specs.declared.RuleWord.{RuleWord}
 use Rattle.forms.specs.declared.FormWord.{FormWord}
-use Rattle.forms.specs.declared.FormWord.TheVariants.{ShipWord, ColumnWord, LoadWord, HoldWord, DropWord, JudgeWord, ClearWord, NoWord as Form-as-NoWord}
+use Rattle.forms.specs.declared.FormWord.TheVariants.{ShipWord, ColumnWord, LoadWord, HoldWord, DropWord, JudgeWord, ClearWord}
 use Rattle.forms.specs.declared.Kind.{Kind}
 use Rattle.forms.specs.declared.Kind.TheVariants.{LoadLine, DropLine, JudgeLine, ClearLine}
 use Rattle.forms.specs.declared.Request.{Request}
-use Rattle.forms.specs.Shape.{plain, column_request, hold_request, hold_record, rule_named, ship_request, ship_by, ship?, column?, load?, mode_named, parts_by, parts?, hold?, drop?, bare?, form_word, form_by, form?}
+use Rattle.forms.specs.Shape.{plain, column_request, hold_request, hold_record, rule_named, ship_request, ship_by, ship?, column?, load?, mode_named, parts?, hold?, drop?, bare?, form_word, form_by, form?}
 
 -- the tokens that were read, in front of those that are left; behind them anything may stand
 pub record Takes {A : Type 0} (p : List Token → Parsed A) (ts : List Token) (a : A) (us : List Token) : Type 0 where
@@ -51,6 +46,10 @@ frames_got b ts a us e = let t = read_same e in record { front = []; same = t.1;
 frames_if : {A : Type 0} (x : Bool) {p q : List Token → Parsed A} → Frames p → Frames q → Frames (λ ts. cond x (p ts) (q ts))
 frames_if true f g = f
 frames_if false f g = g
+
+frames_behind : {W A : Type 0} {f : W → List Token → Parsed A} → ((w : W) → Frames (f w)) → (w : Option W) → Frames (behind? f w)
+frames_behind h (Some w) = h w
+frames_behind h None = frames_none
 
 frames_then : {A B : Type 0} {p : List Token → Parsed A} {f : A → List Token → Parsed B} → Frames p → ((a : A) → Frames (f a)) → Frames (λ ts. p ts and_then f)
 frames_then {A = A} {p = p} {f = f} first second ts b vs e = by (p ts) refl e
@@ -95,11 +94,7 @@ head_frames = frames_then open_frames (λ u. run_frames)
 -- ---- numbers
 number_frames : Frames number?
 unfolding number?
-number_frames = frames_then run_frames (λ r. by (number_of r))
-  where
-    by : (v : Number) → Frames (got_number v)
-    by (Is v) = frames_got v
-    by Bad = frames_none
+number_frames = frames_then run_frames (λ r. frames_behind frames_got (number_of r))
 
 numbers_frame : (k : ℕ) → Frames (numbers? k)
 unfolding numbers?
@@ -144,16 +139,15 @@ module _ {A : Type 0} (body : List ℕ → List Token → Parsed A) (each : (r :
   several_frame k = frames_then (items_frame k) some_frame
 
 -- ---- cells and parts
-cell_by_frames : (w : CellNamed) → Frames (cell_by w)
-cell_by_frames (As w) = frames_then (last_frame (numbers_of w)) (λ v. frames_got (cell_of w v))
-cell_by_frames NoWord = frames_none
+cell_by_frames : (w : CellWord) → Frames (cell_by w)
+cell_by_frames w = frames_then (last_frame (numbers_of w)) (λ v. frames_got (cell_of w v))
 
 abbrev cell_body : List ℕ → List Token → Parsed Cell
-cell_body r us = cell_by (cell_named r) us
+cell_body r us = behind? cell_by (cell_named r) us
 
 cells_frame : (k : ℕ) → Frames (several? k cell?)
 unfolding cell?
-cells_frame k = several_frame cell_body (λ r. cell_by_frames (cell_named r)) k
+cells_frame k = several_frame cell_body (λ r. frames_behind cell_by_frames (cell_named r)) k
 
 section_frames : Frames section?
 unfolding section?
@@ -179,26 +173,24 @@ unfolding part?
 parts_frame m k = several_frame (part_body m) (λ r. frames_if (is r "part") (body_frames m) frames_none) k
 
 -- ---- the forms
-hold_by_frames : (n : ℕ) (m : ModeNamed) → Frames (parts_by n m)
+hold_by_frames : (n : ℕ) (m : Mode) → Frames (parts? n m)
 unfolding parts?
-hold_by_frames n (Mode-as-As m) =
+hold_by_frames n m =
     frames_then number_frames (λ v.
     frames_then (parts_frame m 6) (λ ps. frames_got (hold_request n (hold_record m v ps))))
-hold_by_frames n NoMode = frames_none
 
 hold_frames : Frames hold?
 unfolding hold?
 hold_frames =
     frames_then number_frames (λ n.
-    frames_then run_frames (λ r. hold_by_frames n (mode_named r)))
+    frames_then run_frames (λ r. frames_behind (hold_by_frames n) (mode_named r)))
 
-ship_by_frames : (r : RuleNamed) → Frames (ship_by r)
-ship_by_frames (Under w) = frames_then (last_frame 2) (λ v. frames_got (ship_request w v))
-ship_by_frames NoRule = frames_none
+ship_by_frames : (w : RuleWord) → Frames (ship_by w)
+ship_by_frames w = frames_then (last_frame 2) (λ v. frames_got (ship_request w v))
 
 ship_frames : Frames ship?
 unfolding ship?
-ship_frames = frames_then run_frames (λ r. ship_by_frames (rule_named r))
+ship_frames = frames_then run_frames (λ r. frames_behind ship_by_frames (rule_named r))
 
 abbrev load_request : ℕ → List ℕ → Request
 load_request d v = plain (LoadLine (record { d = d; kg = nth v 0; fs = nth v 1 }))
@@ -239,8 +231,7 @@ form_by_frames HoldWord = hold_frames
 form_by_frames DropWord = drop_frames
 form_by_frames JudgeWord = bare_frames JudgeLine
 form_by_frames ClearWord = bare_frames ClearLine
-form_by_frames Form-as-NoWord = frames_none
 
 pub form_frames : Frames form?
 unfolding form?
-form_frames = frames_then head_frames (λ r. form_by_frames (form_word r))
+form_frames = frames_then head_frames (λ r. frames_behind form_by_frames (form_word r))

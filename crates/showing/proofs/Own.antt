@@ -4,14 +4,13 @@ use mathlib.Core.List.{List, [], ◌∷◌}
 use mathlib.Core.Logic.{◌⊎◌, inl, inr, ⊎_elim}
 use Prim.Native.Nat.{ℕ}
 use native.Mathlib.Omega.{arith}
+use Rattle.std.specs.Prelude.{Option, Some, None}
 use Rattle.whole.specs.Bytes.{bytes}
 use Rattle.record.specs.declared.WeightItem.{WeightItem}
 use Rattle.record.specs.declared.Weighing.{Weighing}
 use Rattle.record.specs.declared.Weighing.TheVariants.{Weight, Weighed, Unweigh}
-use Rattle.text.specs.declared.Number.{Number}
-use Rattle.text.specs.declared.Number.TheVariants.{Is, Bad}
 use Rattle.text.specs.Token.{Token, opened, closed, run, number_of, same}
-use Rattle.items.specs.Grammar.{Parsed, got, none, ◌and_then◌, open?, close?, run?, head?, named, got_number, number?, numbers?, nth, last_numbers?}
+use Rattle.items.specs.Grammar.{Parsed, got, none, ◌and_then◌, open?, close?, run?, head?, named, behind?, number?, numbers?, nth, last_numbers?}
 use Rattle.items.proofs.Yields.{yields, yields_then, yields_whole}
 use Rattle.forms.specs.declared.Kind.{Kind}
 use Rattle.forms.specs.declared.Kind.TheVariants.{TotalLine, WeighingLine, NoShape}
@@ -42,11 +41,11 @@ run_got (opened ∷ ts) us r e = clash e
 run_got (closed ∷ ts) us r e = clash e
 run_got (run q ∷ ts) us r e = cc
 
-number_by : (n : Number) (ts us : List Token) (v : ℕ) → got_number n ts ≡ got v us → (n ≡ Is v) × (ts ≡ us)
-number_by (Is w) ts us v e = (cc, cc)
-number_by Bad ts us v e = clash e
+number_by : (n : Option ℕ) (ts us : List Token) (v : ℕ) → behind? got n ts ≡ got v us → (n ≡ Some v) × (ts ≡ us)
+number_by (Some w) ts us v e = (cc, cc)
+number_by None ts us v e = clash e
 
-number_got : (ts us : List Token) (v : ℕ) → number? ts ≡ got v us → (r : List ℕ) × (ts ≡ run r ∷ us) × (number_of r ≡ Is v)
+number_got : (ts us : List Token) (v : ℕ) → number? ts ≡ got v us → (r : List ℕ) × (ts ≡ run r ∷ us) × (number_of r ≡ Some v)
 unfolding number?
 number_got ts us v e =
     let t = then_got (run? ts) _ v us e in
@@ -61,7 +60,7 @@ bare_got k ts a e =
     close_got ts t.1.0 t.0 t.1.1 ∙ ap (λ l. closed ∷ l) (read_same t.1.2).1
 
 -- one number, and the bracket behind it
-last_got : (ts us : List Token) (v : List ℕ) → last_numbers? 1 ts ≡ got v us → (r : List ℕ) × (ts ≡ run r ∷ closed ∷ us) × (number_of r ≡ Is (nth v 0))
+last_got : (ts us : List Token) (v : List ℕ) → last_numbers? 1 ts ≡ got v us → (r : List ℕ) × (ts ≡ run r ∷ closed ∷ us) × (number_of r ≡ Some (nth v 0))
 unfolding last_numbers? numbers?
 last_got ts us v e =
     let p = then_got (numbers? 1 ts) _ v us e in
@@ -71,7 +70,7 @@ last_got ts us v e =
     let s = read_same q.1.2 in
     let z = read_same w.1.2 in
     let behind = s.1 ∙ close_got p.1.0 w.1.0 w.0 w.1.1 ∙ ap (λ l. closed ∷ l) z.1 in
-    (n.0, n.1 ∙ ap (λ l. run n.0 ∷ l) behind, n.2 ∙ ap (λ l. Is (nth l 0)) (s.0 ∙ z.0))
+    (n.0, n.1 ∙ ap (λ l. run n.0 ∷ l) behind, n.2 ∙ ap (λ l. Some (nth l 0)) (s.0 ∙ z.0))
 
 -- ---- a total
 pub taken_as_total : TakenAsTotal
@@ -104,7 +103,7 @@ weight_found i ts k =
     let same : WeighingLine (Weight (record { tonnes = q.0; height = nth w.0 0 })) ≡ WeighingLine (Weight i) = ap (λ (r : Request). r.kind) (z.0 ∙ sym p.1) ∙ k in
     let item = weights_same same in
     let behind = l.1 ∙ ap (λ m. run l.0 ∷ closed ∷ m) z.1 in
-    (n.0, (l.0, p.2.1 ∙ ap (λ m. opened ∷ run (bytes "weight") ∷ m) (n.1 ∙ ap (λ m. run n.0 ∷ m) behind), n.2 ∙ ap (λ (i : WeightItem). Is i.tonnes) item, l.2 ∙ ap (λ (i : WeightItem). Is i.height) item))
+    (n.0, (l.0, p.2.1 ∙ ap (λ m. opened ∷ run (bytes "weight") ∷ m) (n.1 ∙ ap (λ m. run n.0 ∷ m) behind), n.2 ∙ ap (λ (i : WeightItem). Some i.tonnes) item, l.2 ∙ ap (λ (i : WeightItem). Some i.height) item))
   where
     weights_same : {i j : WeightItem} → WeighingLine (Weight i) ≡ WeighingLine (Weight j) → i ≡ j
     weights_same e = cc
@@ -117,7 +116,7 @@ weighed_found fs ts k =
     let l = last_got p.2.0 w.1.0 w.0 w.1.1 in
     let z = read_same w.1.2 in
     let same : WeighingLine (Weighed (nth w.0 0)) ≡ WeighingLine (Weighed fs) = ap (λ (r : Request). r.kind) (z.0 ∙ sym p.1) ∙ k in
-    (l.0, p.2.1 ∙ ap (λ m. opened ∷ run (bytes "weighed") ∷ m) (l.1 ∙ ap (λ m. run l.0 ∷ closed ∷ m) z.1), l.2 ∙ ap Is (rises_same same))
+    (l.0, p.2.1 ∙ ap (λ m. opened ∷ run (bytes "weighed") ∷ m) (l.1 ∙ ap (λ m. run l.0 ∷ closed ∷ m) z.1), l.2 ∙ ap Some (rises_same same))
   where
     rises_same : {a b : ℕ} → WeighingLine (Weighed a) ≡ WeighingLine (Weighed b) → a ≡ b
     rises_same e = cc

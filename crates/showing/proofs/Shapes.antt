@@ -5,31 +5,26 @@ use mathlib.Core.Bool.{Bool, true, false, cond}
 use mathlib.Core.List.{List, [], ◌∷◌}
 use Prim.Native.Nat.{ℕ, zero, suc, ◌+◌, ◌-◌, ◌≤◌, ◌<◌}
 use native.Mathlib.Omega.{arith}
+use Rattle.std.specs.Prelude.{Option, Some, None}
 use borrow.Author.Tests.{lt-ltb}
 use Rattle.record.specs.declared.Mode.{Mode}
 use Rattle.record.specs.declared.Mode.TheVariants.{Trimmed, Voided, Partial}
 use Rattle.record.specs.declared.Weighing.TheVariants.{Unweigh}
-use Rattle.text.specs.declared.Number.{Number}
-use Rattle.text.specs.declared.Number.TheVariants.{Is, Bad}
 use Rattle.text.specs.Token.{Token, opened, closed, run, number_of}
 use Rattle.line_codes.specs.Line.{Stand, before, inside, behind, wrong, out_of}
 use Rattle.line_codes.proofs.Along.{along}
 use Rattle.spelling.specs.Spelling.{one, places, bracket_gaps}
 use Rattle.spelling.proofs.Lengths.{first_run}
-use Rattle.items.specs.Grammar.{Parsed, got, none, ◌and_then◌, open?, close?, run?, head?, is, got_number, number?, numbers?, last_numbers?, or_else, items?, some_of, several?}
-use Rattle.parts.specs.declared.CellNamed.{CellNamed}
-use Rattle.parts.specs.declared.CellNamed.TheVariants.{As, NoWord}
+use Rattle.items.specs.Grammar.{Parsed, got, none, ◌and_then◌, open?, close?, run?, head?, is, behind?, number?, numbers?, last_numbers?, or_else, items?, some_of, several?}
+use Rattle.parts.specs.declared.CellWord.{CellWord}
 use Rattle.parts.specs.Shape.{cell_named, numbers_of, cell_by, cell?, section?, slack?, body?, part?}
-use Rattle.forms.specs.declared.RuleNamed.{RuleNamed}
-use Rattle.forms.specs.declared.RuleNamed.TheVariants.{Under, NoRule}
-use Rattle.forms.specs.declared.ModeNamed.{ModeNamed}
-use Rattle.forms.specs.declared.ModeNamed.TheVariants.{As as Mode-as-As, NoMode}
+use Rattle.forms.specs.declared.RuleWord.{RuleWord}
 use Rattle.forms.specs.declared.FormWord.{FormWord}
-use Rattle.forms.specs.declared.FormWord.TheVariants.{ShipWord, ColumnWord, LoadWord, HoldWord, DropWord, JudgeWord, ClearWord, NoWord as Form-as-NoWord}
+use Rattle.forms.specs.declared.FormWord.TheVariants.{ShipWord, ColumnWord, LoadWord, HoldWord, DropWord, JudgeWord, ClearWord}
 use Rattle.forms.specs.declared.Kind.{Kind}
 use Rattle.forms.specs.declared.Kind.TheVariants.{JudgeLine, ClearLine, TotalLine, WeighingLine}
 use Rattle.forms.specs.declared.Request.{Request}
-use Rattle.forms.specs.Shape.{rule_named, ship_by, ship?, column?, load?, mode_named, parts_by, parts?, hold?, drop?, bare?, form_word, form_by, form?}
+use Rattle.forms.specs.Shape.{rule_named, ship_by, ship?, column?, load?, mode_named, parts?, hold?, drop?, bare?, form_word, form_by, form?}
 use Rattle.request.specs.declared.LineWord.{LineWord}
 use Rattle.request.specs.declared.LineWord.TheVariants.{OfForm, TotalWord, WeightWord, WeighedWord, UnweighWord}
 use Rattle.request.specs.Shape.{show?, weight?, weighed?, line_word, line_by, line?}
@@ -52,6 +47,10 @@ data Leaves {A : Type 0} (P : List Token → Type 0) : Parsed A → Type 0 where
 leaves_with : {A B : Type 0} {P Q : List Token → Type 0} {r : Parsed A} {f : A → List Token → Parsed B} → Leaves P r → ((a : A) (ts : List Token) → P ts → Leaves Q (f a ts)) → Leaves Q (r and_then f)
 leaves_with (leaves {a = a} {ts = ts} p) h = h a ts p
 leaves_with nothing h = nothing
+
+leaves_behind : {W A : Type 0} {P Q : List Token → Type 0} {f : W → List Token → Parsed A} (w : Option W) (ts : List Token) → P ts → ((w : W) (ts : List Token) → P ts → Leaves Q (f w ts)) → Leaves Q (behind? f w ts)
+leaves_behind (Some w) ts p h = h w ts p
+leaves_behind None ts p h = nothing
 
 leaves_if : {A : Type 0} {P : List Token → Type 0} (x : Bool) {r s : Parsed A} → Leaves P r → Leaves P s → Leaves P (cond x r s)
 leaves_if true p q = p
@@ -119,13 +118,9 @@ module _ (most total : ℕ) (end : Stand) where
   head_leaves d k ts h p = leaves_with (open_leaves d k ts h p) (λ u us q. run_leaves (suc d) (suc k) us q)
 
   -- ---- numbers
-  number_by : (d k : ℕ) (ts : List Token) (v : Number) → In d k ts → Leaves (In d k) (got_number v ts)
-  number_by d k ts (Is v) p = leaves p
-  number_by d k ts Bad p = nothing
-
   number_leaves : (d k : ℕ) (ts : List Token) → In d k ts → Leaves (In d k) (number? ts)
   unfolding number?
-  number_leaves d k ts p = leaves_with (run_leaves d k ts p) (λ r us q. number_by d k us (number_of r) q)
+  number_leaves d k ts p = leaves_with (run_leaves d k ts p) (λ r us q. leaves_behind (number_of r) us q (λ v vs w. leaves w))
 
   numbers_leave : (d k m : ℕ) (ts : List Token) → In d k ts → Leaves (In d k) (numbers? m ts)
   unfolding numbers?
@@ -164,14 +159,13 @@ module _ (most total : ℕ) (end : Stand) where
     several_leave k m ts p = leaves_with (items_leave k m ts p) (some_leave (together m k))
 
   -- ---- cells and parts: a cell opens one bracket, a part nine at most
-  cell_by_lem : (d k : ℕ) (w : CellNamed) (ts : List Token) → In d k ts → Leaves (Behind d k) (cell_by w ts)
-  cell_by_lem d k (As w) ts p = leaves_with (last_leave d k (numbers_of w) ts p) (λ v us q. leaves q)
-  cell_by_lem d k NoWord ts p = nothing
+  cell_by_lem : (d k : ℕ) (w : CellWord) (ts : List Token) → In d k ts → Leaves (Behind d k) (cell_by w ts)
+  cell_by_lem d k w ts p = leaves_with (last_leave d k (numbers_of w) ts p) (λ v us q. leaves q)
 
   cell_leaves : (d k : ℕ) (ts : List Token) → suc d < most → Behind (suc d) k ts → Leaves (Behind (suc d) (1 + k)) (cell? ts)
   unfolding cell?
   cell_leaves d k ts h p =
-      leaves_with (head_leaves d k ts h p) (λ r us q. cell_by_lem (suc d) (1 + k) (cell_named r) us (more_in (omega arith) q))
+      leaves_with (head_leaves d k ts h p) (λ r us q. leaves_behind (cell_named r) us (more_in (omega arith) q) (cell_by_lem (suc d) (1 + k)))
 
   section_leaves : (d k : ℕ) (ts : List Token) → suc d < most → In d k ts → Leaves (Behind d (8 + k)) (section? ts)
   unfolding section?
@@ -198,25 +192,23 @@ module _ (most total : ℕ) (end : Stand) where
         leaves_if (is r "part") (weaker (omega arith) (body_leaves (suc d) (suc k) m us (omega arith) q)) nothing)
 
     -- the forms: a hold opens 54 brackets at most behind its own
-    hold_by : (n k : ℕ) (m : ModeNamed) (ts : List Token) → In d k ts → Leaves (Behind d (54 + k)) (parts_by n m ts)
+    hold_by : (n k : ℕ) (m : Mode) (ts : List Token) → In d k ts → Leaves (Behind d (54 + k)) (parts? n m ts)
     unfolding parts?
-    hold_by n k (Mode-as-As m) ts p =
+    hold_by n k m ts p =
         leaves_with (number_leaves d k ts p) (λ f us q.
         leaves_with (several_leave (part? m) d 9 (part_leaves m) k 6 us (behind_in q)) (λ ps ws w. leaves (more_behind (omega arith) w)))
-    hold_by n k NoMode ts p = nothing
 
     hold_leaves : (k : ℕ) (ts : List Token) → In d k ts → Leaves (Behind d (54 + k)) (hold? ts)
     unfolding hold?
     hold_leaves k ts p =
-        leaves_with (number_leaves d k ts p) (λ n us q. leaves_with (run_leaves d k us q) (λ r ws w. hold_by n k (mode_named r) ws w))
+        leaves_with (number_leaves d k ts p) (λ n us q. leaves_with (run_leaves d k us q) (λ r ws w. leaves_behind (mode_named r) ws w (hold_by n k)))
 
-    ship_by_lem : (k : ℕ) (r : RuleNamed) (ts : List Token) → In d k ts → Leaves (Behind d k) (ship_by r ts)
-    ship_by_lem k (Under w) ts p = leaves_with (last_leave d k 2 ts p) (λ v us q. leaves q)
-    ship_by_lem k NoRule ts p = nothing
+    ship_by_lem : (k : ℕ) (w : RuleWord) (ts : List Token) → In d k ts → Leaves (Behind d k) (ship_by w ts)
+    ship_by_lem k w ts p = leaves_with (last_leave d k 2 ts p) (λ v us q. leaves q)
 
     ship_leaves : (k : ℕ) (ts : List Token) → In d k ts → Leaves (Behind d k) (ship? ts)
     unfolding ship?
-    ship_leaves k ts p = leaves_with (run_leaves d k ts p) (λ r us q. ship_by_lem k (rule_named r) us q)
+    ship_leaves k ts p = leaves_with (run_leaves d k ts p) (λ r us q. leaves_behind (rule_named r) us q (ship_by_lem k))
 
     column_leaves : (k : ℕ) (ts : List Token) → In d k ts → Leaves (Behind d (suc k)) (column? ts)
     unfolding column?
@@ -246,7 +238,6 @@ module _ (most total : ℕ) (end : Stand) where
     form_by_lem k DropWord ts p = weaker (omega arith) (drop_leaves k ts p)
     form_by_lem k JudgeWord ts p = weaker (omega arith) (bare_leaves k JudgeLine ts p)
     form_by_lem k ClearWord ts p = weaker (omega arith) (bare_leaves k ClearLine ts p)
-    form_by_lem k Form-as-NoWord ts p = nothing
 
     -- and every line but show
     line_by_lem : (k : ℕ) (w : LineWord) (ts : List Token) → In d k ts → Leaves (Behind d (54 + k)) (line_by w ts)
@@ -274,7 +265,7 @@ first_bracket most (run r ∷ ts) = nothing
 
 form_leaves : (most : ℕ) → 2 < most → (ts : List Token) → Leaves (Left most ts 55) (form? ts)
 unfolding form?
-form_leaves most h ts = leaves_with (first_bracket most ts) (λ r us p. form_by_lem most (opens ts) (along most before ts) 0 (omega arith) 1 (form_word r) us p)
+form_leaves most h ts = leaves_with (first_bracket most ts) (λ r us p. leaves_behind (form_word r) us p (form_by_lem most (opens ts) (along most before ts) 0 (omega arith) 1))
 
 line_leaves : (most : ℕ) → 3 < most → (ts : List Token) → Leaves (Left most ts 56) (line? ts)
 unfolding line? show? form? bare?
@@ -283,9 +274,9 @@ line_leaves most h ts =
     let e = along most before ts in
     leaves_with (first_bracket most ts) (λ r us p.
     leaves_if (is r "show")
-    (leaves_with (leaves_with (head_leaves most n e 0 1 us (omega arith) (behind_in most n e p)) (λ q vs w. form_by_lem most n e 1 (omega arith) 2 (form_word q) vs w)) (λ a ws w.
+    (leaves_with (leaves_with (head_leaves most n e 0 1 us (omega arith) (behind_in most n e p)) (λ q vs w. leaves_behind (form_word q) vs w (form_by_lem most n e 1 (omega arith) 2))) (λ a ws w.
     leaves_with (close_leaves most n e 0 56 ws w) (λ u xs v. leaves v)))
-    (weaker most n e (omega arith) (line_by_lem most n e 0 (omega arith) 1 (line_word r) us p)))
+    (weaker most n e (omega arith) (leaves_behind (line_word r) us p (line_by_lem most n e 0 (omega arith) 1))))
 
 -- nothing is left
 record Whole (most k : ℕ) (ts : List Token) : Type 0 where

@@ -3,8 +3,8 @@ use mathlib.Core.Path.{◌≡◌, refl, sym, ◌∙◌, ap}
 use mathlib.Core.List.{List, [], ◌∷◌, ◌++◌, append_assoc}
 use Prim.Native.Nat.{ℕ, ◌-◌, ◌≤◌}
 use native.Mathlib.Omega.{arith}
-use lib.ListN.{length, take, drop, set, length-append, length-drop}
-use lib.Seq.{set_at, take_all}
+use lib.ListN.{length, drop, set, length-append}
+use lib.Seq.{set_at}
 use Rattle.whole.specs.Bytes.{bytes}
 use Rattle.text.specs.Token.{closing, Token, opened, closed, run, tokens}
 use Rattle.reply.specs.Written.{over}
@@ -49,19 +49,12 @@ module _ (line : List ℕ) (k : (request_of (tokens line)).kind ≡ ShowLine) wh
   has_word e = let f = word_first in let z : ◌≡◌ {A = ℕ} 0 1 = cc in omega arith
 
   -- and behind it what is spelled ends with the line's bracket
-  behind_word : (w : List ℕ) (q : ℕ) → head? (tokens line) ≡ got w (tokens (drop q line)) → spell (tokens (drop q line)) ≡ spell form ++ closing ∷ []
-  behind_word w q e =
-      let f = word_first in
-      let t : tokens (drop q line) ≡ form ++ closed ∷ [] = cc in
-      rw t (spell_last form)
-
-  -- of the part of the line behind its word
-  module _ (w : List ℕ) (q : ℕ) (e : head? (tokens line) ≡ got w (tokens (drop q line))) where
-    abbrev part : List ℕ
-    part = take (length line - q) (drop q line)
-
+  module _ (w part : List ℕ) (e : head? (tokens line) ≡ got w (tokens part)) where
     pub part_spelled : spell (tokens part) ≡ spell form ++ closing ∷ []
-    part_spelled = ap (λ l. spell (tokens l)) (take_all (length line - q) (drop q line) (omega (arith, length-drop q line))) ∙ behind_word w q e
+    part_spelled =
+        let f = word_first in
+        let t : tokens part ≡ form ++ closed ∷ [] = cc in
+        rw t (spell_last form)
 
     pub part_long : length (spell (tokens part)) ≡ length (show_reply (tokens line))
     part_long = rw (part_spelled, length-append (spell form) (closing ∷ []), length-append (spell form) (10 ∷ []))

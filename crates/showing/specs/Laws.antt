@@ -1,11 +1,10 @@
 -- The laws of show, and of the lines that it does not take: total and those of weights. Proved in proofs/Laws.antt, Forms.antt and Own.antt.
-use Rattle.std.specs.Prelude.{◌≡◌, List, [], ◌∷◌, ◌++◌, ◌↔◌, ℕ, ◌≤◌, length}
+use Rattle.std.specs.Prelude.{◌≡◌, List, [], ◌∷◌, ◌++◌, ◌↔◌, ℕ, ◌≤◌, length, Some}
 use Rattle.whole.specs.Bytes.{bytes}
 use Rattle.record.specs.declared.Ship.{Ship}
 use Rattle.record.specs.declared.Load.{Load}
 use Rattle.record.specs.declared.Weighing.{Weighing}
 use Rattle.record.specs.declared.Weighing.TheVariants.{Weight, Weighed, Unweigh}
-use Rattle.text.specs.declared.Number.TheVariants.{Is}
 use Rattle.text.specs.Token.{Token, opened, closed, run, tokens, number_of}
 use Rattle.line_codes.specs.declared.Reading.TheVariants.{Sound}
 use Rattle.line_codes.specs.Line.{reading_of}
@@ -70,8 +69,8 @@ TotalOnly = (behind : List Token) → (behind ≡ closed ∷ [] → ⊥) → (re
 -- document 02, P5: these tokens are a line of weights that asks for this, whatever the spaces: `(weight T H)`, `(weighed FS)`, `(unweigh)`
 abbrev pub WeighingOf : Weighing → List Token → Type 0
 WeighingOf (Weight i) ts =
-    (t : List ℕ) × ((h : List ℕ) × (ts ≡ opened ∷ run (bytes "weight") ∷ run t ∷ run h ∷ closed ∷ []) × (number_of t ≡ Is i.tonnes) × (number_of h ≡ Is i.height))
-WeighingOf (Weighed fs) ts = (r : List ℕ) × (ts ≡ opened ∷ run (bytes "weighed") ∷ run r ∷ closed ∷ []) × (number_of r ≡ Is fs)
+    (t : List ℕ) × ((h : List ℕ) × (ts ≡ opened ∷ run (bytes "weight") ∷ run t ∷ run h ∷ closed ∷ []) × (number_of t ≡ Some i.tonnes) × (number_of h ≡ Some i.height))
+WeighingOf (Weighed fs) ts = (r : List ℕ) × (ts ≡ opened ∷ run (bytes "weighed") ∷ run r ∷ closed ∷ []) × (number_of r ≡ Some fs)
 WeighingOf Unweigh ts = ts ≡ opened ∷ run (bytes "unweigh") ∷ closed ∷ []
 
 abbrev pub TakenAsWeighing : Type 0

@@ -8,8 +8,6 @@ ghost use Rattle.forms.specs.declared.Kind.TheVariants.{ShowLine};
 ghost use Rattle.request.specs.Shape.{request_of};
 ghost use Rattle.showing.specs.Show.{show_reply};
 
-use items::Span;
-
 // The form inside a show line, in the one spelling, and a newline, over the front of a buffer. What stands behind the word `show` is spelled,
 // and its last byte, the bracket that closes the line, gives way to the newline.
 pub fn show(line: &[u8], out: &mut [u8]) -> usize
@@ -18,10 +16,10 @@ pub fn show(line: &[u8], out: &mut [u8]) -> usize
     ensures value { result ≡ length (show_reply (tokens line.now)) }
     ensures out_after { out.new ≡ over (show_reply (tokens line.now)) out.old }
 {
-    let Span::From(_, q) = items::head_at(line, 0) else {
+    let Some((_, rest)) = items::head(line) else {
         return 0;
     };
-    let len = spelling::spell(&line[q..], out);
+    let len = spelling::spell(rest, out);
     out[len - 1] = b'\n';
     len
 }

@@ -9,40 +9,35 @@ use Rattle.showing.proofs.show.Goals as goal
 
 pub returns-in_default : goal.returns-in_default
 returns-in_default c =
-    absurd (has_word c.args.line.now c.requires.is_show (rw c.in_default.is at c.head_at.ensures))
-
-pub slice_bounds-spell-count : goal.slice_bounds-spell-count
-slice_bounds-spell-count c =
-    let n = rw c.in-From.is at c.head_at.ensures in
-    n.0.1
+    absurd (has_word c.args.line.now c.requires.is_show (rw c.in_default.is at c.head.ensures))
 
 pub spell-len-requires : goal.spell-len-requires
 spell-len-requires c =
     let pre = c.requires in
-    let n = rw c.in-From.is at c.head_at.ensures in
+    let n = rw c.in-Some.is at c.head.ensures in
     let line = c.args.line.now in
-    omega (arith, part_fits_lem line pre.is_show _ c.in-From.q n.0.0 pre.room.0, pre.room.1)
+    omega (arith, part_fits_lem line pre.is_show _ c.in-Some.rest.now n pre.room.0, pre.room.1)
 
 pub overflow_sub-out : goal.overflow_sub-out
 overflow_sub-out c =
     let pre = c.requires in
-    let n = rw c.in-From.is at c.head_at.ensures in
+    let n = rw c.in-Some.is at c.head.ensures in
     let line = c.args.line.now in
-    omega (arith, part_some line pre.is_show _ c.in-From.q n.0.0, c.spell-len.ensures.value)
+    omega (arith, part_some line pre.is_show _ c.in-Some.rest.now n, c.spell-len.ensures.value)
 
 pub bounds-out-len : goal.bounds-out-len
 bounds-out-len c =
     let pre = c.requires in
-    let n = rw c.in-From.is at c.head_at.ensures in
+    let n = rw c.in-Some.is at c.head.ensures in
     let line = c.args.line.now in
-    omega (arith, part_some line pre.is_show _ c.in-From.q n.0.0, part_fits_lem line pre.is_show _ c.in-From.q n.0.0 pre.room.0, pre.room.1, c.spell-len.ensures.value, c.spell-len.auto.out)
+    omega (arith, part_some line pre.is_show _ c.in-Some.rest.now n, part_fits_lem line pre.is_show _ c.in-Some.rest.now n pre.room.0, pre.room.1, c.spell-len.ensures.value, c.spell-len.auto.out)
 
 pub returns : goal.returns
 returns c =
     let s = c.spell-len in
     let pre = c.requires in
-    let n = rw c.in-From.is at c.head_at.ensures in
+    let n = rw c.in-Some.is at c.head.ensures in
     let line = c.args.line.now in
     let out = c.args.out.now in
-    let e = part_spelled line pre.is_show _ c.in-From.q n.0.0 in
-    record { value = s.ensures.value ∙ part_long line pre.is_show _ c.in-From.q n.0.0; out_after = rw (s.ensures.out_after, s.ensures.value, e) (newline_last (spell (form_inside (tokens line))) out) }
+    let e = part_spelled line pre.is_show _ c.in-Some.rest.now n in
+    record { value = s.ensures.value ∙ part_long line pre.is_show _ c.in-Some.rest.now n; out_after = rw (s.ensures.out_after, s.ensures.value, e) (newline_last (spell (form_inside (tokens line))) out) }
