@@ -25,8 +25,9 @@ pub enum LineWord {
 fn show<'a>(s: &'a [u8]) -> Option<(Request, &'a [u8])>
     ensures { carry carried_request (show? (tokens s.now)) ≡ read_of result }
 {
-    let (word, rest) = items::head(s)?;
-    let (_, rest) = forms::form_by(forms::form_word(word)?, rest)?;
+    let (word, behind) = items::head(s)?;
+    let form = forms::form_word(word)?;
+    let (_, rest) = forms::form_by(form, behind)?;
     forms::bare(Request::ShowLine, rest)
 }
 

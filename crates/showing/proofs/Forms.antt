@@ -17,10 +17,9 @@ use Rattle.parts.specs.Shape.{part?}
 use Rattle.forms.specs.declared.RuleWord.{RuleWord}
 use Rattle.forms.specs.declared.FormWord.{FormWord}
 use Rattle.forms.specs.declared.FormWord.TheVariants.{ShipWord, ColumnWord, LoadWord, HoldWord, DropWord, JudgeWord, ClearWord}
-use Rattle.forms.specs.declared.Kind.{Kind}
-use Rattle.forms.specs.declared.Kind.TheVariants.{ShipLine, ColumnLine, LoadLine, HoldLine, DropLine, JudgeLine, ClearLine, ShowLine, TotalLine, WeighingLine, NoShape}
+use Rattle.forms.specs.declared.Request.TheVariants.{ShipLine, ColumnLine, LoadLine, HoldLine, DropLine, JudgeLine, ClearLine, ShowLine, TotalLine, WeighingLine}
 use Rattle.forms.specs.declared.Request.{Request}
-use Rattle.forms.specs.Shape.{plain, rule_named, ship_by, ship?, column?, load?, mode_named, parts?, hold?, drop?, bare?, form_word, form_by, form?}
+use Rattle.forms.specs.Shape.{rule_named, ship_by, ship?, column?, load?, mode_named, parts?, hold?, drop?, bare?, form_word, form_by, form?}
 use Rattle.request.specs.declared.LineWord.{LineWord}
 use Rattle.request.specs.declared.LineWord.TheVariants.{OfForm, TotalWord, WeightWord, WeighedWord, UnweighWord}
 use Rattle.request.specs.Shape.{show?, weight?, weighed?, line_word, line_by, line?, request_of}
@@ -29,7 +28,7 @@ use Rattle.showing.proofs.Framing.{clash, form_frames}
 
 -- ---- what a form yields
 abbrev Of01 : Request → Type 0
-Of01 r = OfDocument01 r.kind
+Of01 r = OfDocument01 (Some r)
 
 hold_by : (n : ℕ) (m : Mode) (ts : List Token) → Yields Of01 (parts? n m ts)
 unfolding parts?
@@ -58,23 +57,32 @@ form_kind : (ts : List Token) (a : Request) (us : List Token) → form? ts ≡ g
 unfolding form?
 form_kind ts a us e = yielded Of01 a us (yields_then (head? ts) (λ r ws. yields_behind (form_word r) form_by_lem ws)) e
 
--- the kinds by their lines: one of these, a show, none, and each that no show takes
-abbrev pub sort_of : Kind → ℕ
+-- the requests by their lines: one of these, a show, and each that no show takes
+abbrev pub sort_of : Request → ℕ
 sort_of (ShipLine s) = 0
-sort_of ColumnLine = 0
+sort_of (ColumnLine k) = 0
 sort_of (LoadLine l) = 0
-sort_of (HoldLine n) = 0
+sort_of (HoldLine n h) = 0
 sort_of (DropLine n) = 0
 sort_of JudgeLine = 0
 sort_of ClearLine = 0
 sort_of ShowLine = 1
-sort_of NoShape = 2
 sort_of TotalLine = 3
 sort_of (WeighingLine (Weight i)) = 4
 sort_of (WeighingLine (Weighed fs)) = 5
 sort_of (WeighingLine Unweigh) = 6
 
-sort_01 : {k : Kind} → OfDocument01 k → sort_of k ≡ 0
+-- what asks for one of document 01's forms is such a request
+asked : {o : Option Request} → OfDocument01 o → (a : Request) × (o ≡ Some a) × Of01 a
+asked ship = (_, refl, ship)
+asked column = (_, refl, column)
+asked load = (_, refl, load)
+asked hold = (_, refl, hold)
+asked drop = (_, refl, drop)
+asked judge = (_, refl, judge)
+asked clear = (_, refl, clear)
+
+sort_01 : {a : Request} → Of01 a → sort_of a ≡ 0
 sort_01 ship = refl
 sort_01 column = refl
 sort_01 load = refl
@@ -117,7 +125,7 @@ word_back WeighedWord own = refl
 word_back UnweighWord own = refl
 
 -- what such a line yields
-own_yields : (w : LineWord) (ts : List Token) → 0 < own_sort w → Yields (λ (r : Request). sort_of r.kind ≡ own_sort w) (line_by w ts)
+own_yields : (w : LineWord) (ts : List Token) → 0 < own_sort w → Yields (λ (r : Request). sort_of r ≡ own_sort w) (line_by w ts)
 unfolding bare? weight? weighed?
 own_yields (OfForm w) ts own = absurd (omega arith)
 own_yields TotalWord ts own = yields_then (close? ts) (λ u us. yields refl)
@@ -125,8 +133,8 @@ own_yields WeightWord ts own = yields_then (number? ts) (λ t us. yields_then (l
 own_yields WeighedWord ts own = yields_then (last_numbers? 1 ts) (λ v us. yields refl)
 own_yields UnweighWord ts own = yields_then (close? ts) (λ u us. yields refl)
 
-own_kind : (w : LineWord) (vs : List Token) (a : Request) (us : List Token) → 0 < own_sort w → line_by w vs ≡ got a us → sort_of a.kind ≡ own_sort w
-own_kind w vs a us own e = yielded (λ r. sort_of r.kind ≡ own_sort w) a us (own_yields w vs own) e
+own_kind : (w : LineWord) (vs : List Token) (a : Request) (us : List Token) → 0 < own_sort w → line_by w vs ≡ got a us → sort_of a ≡ own_sort w
+own_kind w vs a us own e = yielded (λ r. sort_of r ≡ own_sort w) a us (own_yields w vs own) e
 
 -- a run names such a line, or a form
 data Named (r : List ℕ) : Option LineWord → Type 0 where
@@ -152,7 +160,7 @@ named_as r =
 pub data Read (ts : List Token) (a : Request) (us : List Token) : Type 0 where
   a_form : form? ts ≡ got a us → Read ts a us
   a_show : (vs : List Token) → ts ≡ opened ∷ run (bytes "show") ∷ vs → show? vs ≡ got a us → Read ts a us
-  an_own : (w : LineWord) (vs : List Token) → sort_of a.kind ≡ own_sort w → 0 < own_sort w → ts ≡ opened ∷ run (own_word w) ∷ vs → line_by w vs ≡ got a us → Read ts a us
+  an_own : (w : LineWord) (vs : List Token) → sort_of a ≡ own_sort w → 0 < own_sort w → ts ≡ opened ∷ run (own_word w) ∷ vs → line_by w vs ≡ got a us → Read ts a us
 
 pub read_line : (ts : List Token) (a : Request) (us : List Token) → line? ts ≡ got a us → Read ts a us
 unfolding line? form? head? open? run?
@@ -203,68 +211,73 @@ form_line (opened ∷ run r ∷ ts) a us e = by (is r "show") refl
     by false p = other (line_word r) (named_as r)
 
 -- what a show reads: a form, and the bracket behind it
-show_reads : (vs : List Token) (a : Request) (us : List Token) → show? vs ≡ got a us → (a ≡ plain ShowLine) × ((b : Request) × (form? vs ≡ got b (closed ∷ us)))
+show_reads : (vs : List Token) (a : Request) (us : List Token) → show? vs ≡ got a us → (a ≡ ShowLine) × ((b : Request) × (form? vs ≡ got b (closed ∷ us)))
 unfolding show? bare? close?
 show_reads vs a us e = by (form? vs) refl e
   where
-    then : (b : Request) (ws : List Token) → form? vs ≡ got b ws → (close? ws and_then λ u xs. got (plain ShowLine) xs) ≡ got a us → (a ≡ plain ShowLine) × ((b : Request) × (form? vs ≡ got b (closed ∷ us)))
+    then : (b : Request) (ws : List Token) → form? vs ≡ got b ws → (close? ws and_then λ u xs. got (ShowLine) xs) ≡ got a us → (a ≡ ShowLine) × ((b : Request) × (form? vs ≡ got b (closed ∷ us)))
     then b [] q e = clash e
     then b (opened ∷ ws) q e = clash e
     then b (run r ∷ ws) q e = clash e
     then b (closed ∷ ws) q e = let t : ws ≡ us = cc in (cc, (b, rw (← t) q))
 
-    by : (r : Parsed Request) → form? vs ≡ r → (r and_then λ b ws. close? ws and_then λ u xs. got (plain ShowLine) xs) ≡ got a us → (a ≡ plain ShowLine) × ((b : Request) × (form? vs ≡ got b (closed ∷ us)))
+    by : (r : Parsed Request) → form? vs ≡ r → (r and_then λ b ws. close? ws and_then λ u xs. got (ShowLine) xs) ≡ got a us → (a ≡ ShowLine) × ((b : Request) × (form? vs ≡ got b (closed ∷ us)))
     by none q e = clash e
     by (got b ws) q e = then b ws q e
 
 -- ---- the request of a whole line
-whole_reads : (r : Parsed Request) → ((whole? r (plain NoShape)).kind ≡ NoShape → ⊥) → (a : Request) × (r ≡ got a []) × (whole? r (plain NoShape) ≡ a)
-whole_reads (got a []) n = (a, refl, refl)
-whole_reads (got a (t ∷ ts)) n = absurd (n refl)
-whole_reads none n = absurd (n refl)
+whole_reads : (r : Parsed Request) (a : Request) → whole? r ≡ Some a → r ≡ got a []
+whole_reads (got b []) a e = let h : b ≡ a = cc in rw h
+whole_reads (got b (t ∷ ts)) a e =
+    let z : ◌≡◌ {A = ℕ} 0 1 = cc in absurd (omega arith)
+whole_reads none a e =
+    let z : ◌≡◌ {A = ℕ} 0 1 = cc in absurd (omega arith)
 
 -- a line of a shape is read to its end
-pub shape_read : (ts : List Token) → ((request_of ts).kind ≡ NoShape → ⊥) → (a : Request) × (line? ts ≡ got a [])
+pub line_reads : (ts : List Token) (a : Request) → request_of ts ≡ Some a → line? ts ≡ got a []
 unfolding request_of
-shape_read ts n = let w = whole_reads (line? ts) n in (w.0, w.1)
+line_reads ts a e = whole_reads (line? ts) a e
+
+pub shape_read : (ts : List Token) → (request_of ts ≡ None → ⊥) → (a : Request) × (line? ts ≡ got a [])
+shape_read ts n = by (request_of ts) refl
+  where
+    by : (o : Option Request) → request_of ts ≡ o → (a : Request) × (line? ts ≡ got a [])
+    by (Some a) e = (a, line_reads ts a e)
+    by None e = absurd (n e)
 
 -- the request of a line, or a form, is what it reads as
-pub line_request : (ts : List Token) (a : Request) → line? ts ≡ got a [] → request_of ts ≡ a
+pub line_request : (ts : List Token) (a : Request) → line? ts ≡ got a [] → request_of ts ≡ Some a
 unfolding request_of
 line_request ts a e = rw e
 
-form_request : (form : List Token) (a : Request) → form? form ≡ got a [] → request_of form ≡ a
+form_request : (form : List Token) (a : Request) → form? form ≡ got a [] → request_of form ≡ Some a
 form_request form a e = line_request form a (form_line form a [] e)
 
 -- tokens that ask for one of document 01's forms are such a form
-pub asked_form : (form : List Token) → OfDocument01 (request_of form).kind → (a : Request) × (form? form ≡ got a [])
-unfolding request_of
+pub asked_form : (form : List Token) → OfDocument01 (request_of form) → (a : Request) × (form? form ≡ got a [])
 asked_form form k =
-    let w = whole_reads (line? form) (λ e. omega (arith, sort_01 k, ap sort_of e)) in
-    by w.0 (rw w.2 at k) (read_line form w.0 [] w.1)
+    let w = asked k in
+    by w.0 w.2 (read_line form w.0 [] (line_reads form w.0 w.1))
   where
     by : (a : Request) → Of01 a → Read form a [] → (a : Request) × (form? form ≡ got a [])
     by a k (a_form e) = (a, e)
-    by a k (a_show vs t e) = absurd (omega (arith, sort_01 k, ap (λ (r : Request). sort_of r.kind) (show_reads vs a [] e).0))
+    by a k (a_show vs t e) = absurd (omega (arith, sort_01 k, ap sort_of (show_reads vs a [] e).0))
     by a k (an_own w vs s own t e) = absurd (omega (arith, sort_01 k))
 
 -- ---- a show
-pub show_found : (ts : List Token) → (request_of ts).kind ≡ ShowLine → (form : List Token) × ShowOf ts form
-unfolding request_of
-show_found ts k =
-    let w = whole_reads (line? ts) (λ e. omega (arith, ap sort_of (sym e ∙ k))) in
-    by w.0 (ap (λ (r : Request). r.kind) (sym w.2) ∙ k) (read_line ts w.0 [] w.1)
+pub show_found : (ts : List Token) → request_of ts ≡ Some ShowLine → (form : List Token) × ShowOf ts form
+show_found ts k = by (read_line ts ShowLine [] (line_reads ts ShowLine k))
   where
-    by : (a : Request) → a.kind ≡ ShowLine → Read ts a [] → (form : List Token) × ShowOf ts form
-    by a k (a_form e) = absurd (omega (arith, sort_01 (form_kind ts a [] e), ap sort_of k))
-    by a k (an_own w vs s own t e) = absurd (omega (arith, own_late w own, ap sort_of k))
-    by a k (a_show vs t e) =
-        let s = (show_reads vs a [] e).1 in
+    by : Read ts ShowLine [] → (form : List Token) × ShowOf ts form
+    by (a_form e) = absurd (omega (arith, sort_01 (form_kind ts ShowLine [] e)))
+    by (an_own w vs s own t e) = absurd (omega (arith, own_late w own))
+    by (a_show vs t e) =
+        let s = (show_reads vs ShowLine [] e).1 in
         let f = form_frames vs s.0 (closed ∷ []) s.1 in
         let alone : form? f.front ≡ got s.0 [] = rw (append-nil f.front) at (f.again []) in
         (f.front, (t ∙ ap (λ l. opened ∷ run (bytes "show") ∷ l) f.same, rw (form_request f.front s.0 alone) (form_kind f.front s.0 [] alone)))
 
-pub show_taken : (ts form : List Token) → ShowOf ts form → (request_of ts).kind ≡ ShowLine
+pub show_taken : (ts form : List Token) → ShowOf ts form → request_of ts ≡ Some ShowLine
 unfolding request_of line? head? open? run? show? bare? close? same
 show_taken ts form w =
     let a = asked_form form w.1 in
@@ -273,14 +286,11 @@ show_taken ts form w =
     let e : form? (form ++ closed ∷ []) ≡ got a.0 (closed ∷ []) = ap (λ l. form? (l ++ closed ∷ [])) (sym front) ∙ f.again (closed ∷ []) in
     rw (w.0, e)
 
--- ---- a line with a word of its own: what it is read as has its kind
-pub own_found : (w : LineWord) (ts : List Token) → 0 < own_sort w → sort_of (request_of ts).kind ≡ own_sort w → (a : Request) × (request_of ts ≡ a) × ((vs : List Token) × (ts ≡ opened ∷ run (own_word w) ∷ vs) × (line_by w vs ≡ got a []))
-unfolding request_of
-own_found w ts own k =
-    let p = whole_reads (line? ts) (λ e. omega (arith, own_late w own, ap sort_of e)) in
-    (p.0, p.2, by p.0 (ap (λ (r : Request). sort_of r.kind) (sym p.2) ∙ k) (read_line ts p.0 [] p.1))
+-- ---- a line with a word of its own
+pub own_found : (w : LineWord) (ts : List Token) → 0 < own_sort w → (a : Request) → request_of ts ≡ Some a → sort_of a ≡ own_sort w → (vs : List Token) × (ts ≡ opened ∷ run (own_word w) ∷ vs) × (line_by w vs ≡ got a [])
+own_found w ts own a e k = by (read_line ts a [] (line_reads ts a e))
   where
-    by : (a : Request) → sort_of a.kind ≡ own_sort w → Read ts a [] → (vs : List Token) × (ts ≡ opened ∷ run (own_word w) ∷ vs) × (line_by w vs ≡ got a [])
-    by a k (a_form e) = absurd (omega (arith, sort_01 (form_kind ts a [] e)))
-    by a k (a_show vs t e) = absurd (omega (arith, own_late w own, ap (λ (r : Request). sort_of r.kind) (show_reads vs a [] e).0))
-    by a k (an_own u vs s p t e) = let q : u ≡ w = sym (word_back u p) ∙ ap word_by (sym s ∙ k) ∙ word_back w own in (vs, rw (← q) t, rw (← q) e)
+    by : Read ts a [] → (vs : List Token) × (ts ≡ opened ∷ run (own_word w) ∷ vs) × (line_by w vs ≡ got a [])
+    by (a_form f) = absurd (omega (arith, sort_01 (form_kind ts a [] f)))
+    by (a_show vs t f) = absurd (omega (arith, own_late w own, ap sort_of (show_reads vs a [] f).0))
+    by (an_own u vs s p t f) = let q : u ≡ w = sym (word_back u p) ∙ ap word_by (sym s ∙ k) ∙ word_back w own in (vs, rw (← q) t, rw (← q) f)

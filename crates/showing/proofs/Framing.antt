@@ -16,10 +16,9 @@ use Rattle.parts.specs.Shape.{cell_named, numbers_of, cell_of, cell_by, cell?, s
 use Rattle.forms.specs.declared.RuleWord.{RuleWord}
 use Rattle.forms.specs.declared.FormWord.{FormWord}
 use Rattle.forms.specs.declared.FormWord.TheVariants.{ShipWord, ColumnWord, LoadWord, HoldWord, DropWord, JudgeWord, ClearWord}
-use Rattle.forms.specs.declared.Kind.{Kind}
-use Rattle.forms.specs.declared.Kind.TheVariants.{LoadLine, DropLine, JudgeLine, ClearLine}
+use Rattle.forms.specs.declared.Request.TheVariants.{ColumnLine, LoadLine, HoldLine, DropLine, JudgeLine, ClearLine}
 use Rattle.forms.specs.declared.Request.{Request}
-use Rattle.forms.specs.Shape.{plain, column_request, hold_request, hold_record, rule_named, ship_request, ship_by, ship?, column?, load?, mode_named, parts?, hold?, drop?, bare?, form_word, form_by, form?}
+use Rattle.forms.specs.Shape.{hold_record, rule_named, ship_request, ship_by, ship?, column?, load?, mode_named, parts?, hold?, drop?, bare?, form_word, form_by, form?}
 
 -- the tokens that were read, in front of those that are left; behind them anything may stand
 pub record Takes {A : Type 0} (p : List Token → Parsed A) (ts : List Token) (a : A) (us : List Token) : Type 0 where
@@ -177,7 +176,7 @@ hold_by_frames : (n : ℕ) (m : Mode) → Frames (parts? n m)
 unfolding parts?
 hold_by_frames n m =
     frames_then number_frames (λ v.
-    frames_then (parts_frame m 6) (λ ps. frames_got (hold_request n (hold_record m v ps))))
+    frames_then (parts_frame m 6) (λ ps. frames_got (HoldLine n (hold_record m v ps))))
 
 hold_frames : Frames hold?
 unfolding hold?
@@ -193,10 +192,10 @@ unfolding ship?
 ship_frames = frames_then run_frames (λ r. frames_behind ship_by_frames (rule_named r))
 
 abbrev load_request : ℕ → List ℕ → Request
-load_request d v = plain (LoadLine (record { d = d; kg = nth v 0; fs = nth v 1 }))
+load_request d v = LoadLine (record { d = d; kg = nth v 0; fs = nth v 1 })
 
 abbrev column_of : ℕ → ℕ → List ℕ → Request
-column_of d km kn = column_request (record { d = d; km = km; kn = kn })
+column_of d km kn = ColumnLine (record { d = d; km = km; kn = kn })
 
 column_frames : Frames column?
 unfolding column?
@@ -217,11 +216,11 @@ drop_frames : Frames drop?
 unfolding drop?
 drop_frames =
     frames_then number_frames (λ n.
-    frames_then close_frames (λ u. frames_got (plain (DropLine n))))
+    frames_then close_frames (λ u. frames_got (DropLine n)))
 
-bare_frames : (k : Kind) → Frames (bare? k)
+bare_frames : (r : Request) → Frames (bare? r)
 unfolding bare?
-bare_frames k = frames_then close_frames (λ u. frames_got (plain k))
+bare_frames r = frames_then close_frames (λ u. frames_got r)
 
 form_by_frames : (w : FormWord) → Frames (form_by w)
 form_by_frames ShipWord = ship_frames

@@ -10,7 +10,7 @@ use Rattle.whole.specs.Bytes.{bytes}
 use Rattle.whole.specs.Lists.{all}
 use Rattle.whole.proofs.Lists.{and_true, all_append}
 use Rattle.text.specs.Token.{allowed, Token, opened, closed, run, tokens}
-use Rattle.line_codes.specs.declared.Reading.TheVariants.{Sound}
+use Rattle.std.specs.Prelude.{None, Ok}
 use Rattle.line_codes.specs.Line.{before, is_show, deepest, one_form, sound_token, reading_of}
 use Rattle.line_codes.specs.Alike.{AllowedLine}
 use Rattle.line_codes.proofs.Along.{walk_tokens}
@@ -21,7 +21,6 @@ use Rattle.spelling.proofs.Reading.{tokens_spell, tokens_proper}
 use Rattle.spelling.proofs.Spelled.{spell_allowed}
 use Rattle.spelling.proofs.Lengths.{inner_length}
 use Rattle.items.specs.Grammar.{got}
-use Rattle.forms.specs.declared.Kind.TheVariants.{NoShape}
 use Rattle.forms.specs.declared.Request.{Request}
 use Rattle.request.specs.Shape.{line?, request_of}
 use Rattle.showing.specs.Show.{form_inside}
@@ -55,19 +54,19 @@ deep_enough : (x : Bool) → 4 ≤ cond x 5 4
 deep_enough true = omega arith
 deep_enough false = omega arith
 
-pub line_sound : (s : List ℕ) (form : List Token) (a : Request) → tokens s ≡ form → line? form ≡ got a [] → AllowedLine s → all sound_token form ≡ true → reading_of s ≡ Sound
+pub line_sound : (s : List ℕ) (form : List Token) (a : Request) → tokens s ≡ form → line? form ≡ got a [] → AllowedLine s → all sound_token form ≡ true → reading_of s ≡ Ok tt
 line_sound s form a e f l n =
     let w = line_walks (deepest form) form a (deep_enough (is_show form)) f in
     is_sound s l.long l.bytes (rw (walk_tokens (deepest (tokens s)) s l.bytes before, e, w)) (rw e n)
 
 -- a line of a shape is four deep at most
-pub shape_deep : (line : List ℕ) → all allowed line ≡ true → ((request_of (tokens line)).kind ≡ NoShape → ⊥) → one_form 4 line ≡ true
+pub shape_deep : (line : List ℕ) → all allowed line ≡ true → (request_of (tokens line) ≡ None → ⊥) → one_form 4 line ≡ true
 shape_deep line a n =
     let r = shape_read (tokens line) n in
     rw (walk_tokens 4 line a before, line_walks 4 (tokens line) r.0 (omega arith) r.1)
 
 -- a line, spelled
-pub spelled_sound : (form : List Token) (a : Request) → line? form ≡ got a [] → all proper form ≡ true → all sound_token form ≡ true → length (spell form) ≤ 2000 → reading_of (spell form) ≡ Sound
+pub spelled_sound : (form : List Token) (a : Request) → line? form ≡ got a [] → all proper form ≡ true → all sound_token form ≡ true → length (spell form) ≤ 2000 → reading_of (spell form) ≡ Ok tt
 spelled_sound form a f p n l = line_sound (spell form) form a (tokens_spell form p) f (record { long = l; bytes = spell_allowed form p }) n
 
 -- ---- the form inside a show line
@@ -85,7 +84,7 @@ module _ (line : List ℕ) (form : List Token) (w : ShowOf (tokens line) form) w
   pub form_kept : tokens (spell form) ≡ form
   form_kept = tokens_spell form form_proper
 
-  pub form_numbers : reading_of line ≡ Sound → all sound_token form ≡ true
+  pub form_numbers : reading_of line ≡ Ok tt → all sound_token form ≡ true
   form_numbers e = within_show sound_token (tokens line) form w.0 (sound_numbers line e)
 
 pub spelled_is_sound : SpelledIsSound

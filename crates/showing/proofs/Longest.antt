@@ -6,12 +6,12 @@ use lib.ListN.{length}
 use Rattle.whole.specs.Lists.{within, all}
 use Rattle.whole.specs.Bytes.{bytes}
 use Rattle.text.specs.Token.{tokens, number_of, same, value_from}
-use Rattle.line_codes.specs.declared.Reading.TheVariants.{Sound}
+use Rattle.std.specs.Prelude.{Some, Ok}
 use Rattle.line_codes.specs.Line.{walked, reading_of}
 use Rattle.spelling.specs.Spelling.{spell}
 use Rattle.items.specs.Grammar.{items?, last_numbers?, numbers?, number?, head?, run?, open?, close?, named}
 use Rattle.parts.specs.Shape.{part?, body?, section?, cell?}
-use Rattle.forms.specs.declared.Kind.TheVariants.{ShowLine}
+use Rattle.forms.specs.declared.Request.TheVariants.{ShowLine}
 use Rattle.forms.specs.Shape.{bare?, form?, hold?, parts?}
 use Rattle.request.specs.Shape.{request_of, line?, show?}
 use Rattle.showing.specs.Show.{form_inside, show_reply}
@@ -23,11 +23,11 @@ longest = bytes "(show(hold 111111111 trimmed 111111111(part 111111111(wing 1111
 long : length longest ≡ 2000
 long = refl
 
-sound : reading_of longest ≡ Sound
+sound : reading_of longest ≡ Ok tt
 unfolding reading_of all within walked tokens number_of same value_from
 sound = refl
 
-asks : (request_of (tokens longest)).kind ≡ ShowLine
+asks : request_of (tokens longest) ≡ Some ShowLine
 unfolding tokens within request_of line? show? bare? form? hold? parts? part? body? section? cell? items? last_numbers? numbers? number? head? run? open? close? named number_of same value_from all
 asks = refl
 

@@ -1,5 +1,5 @@
 -- Which lines are a total, and which are lines of weights.
-use mathlib.Core.Path.{◌≡◌, refl, sym, ◌∙◌, ap}
+use mathlib.Core.Path.{◌≡◌, refl, ◌∙◌, ap}
 use mathlib.Core.List.{List, [], ◌∷◌}
 use mathlib.Core.Logic.{◌⊎◌, inl, inr, ⊎_elim}
 use Prim.Native.Nat.{ℕ}
@@ -10,17 +10,16 @@ use Rattle.record.specs.declared.WeightItem.{WeightItem}
 use Rattle.record.specs.declared.Weighing.{Weighing}
 use Rattle.record.specs.declared.Weighing.TheVariants.{Weight, Weighed, Unweigh}
 use Rattle.text.specs.Token.{Token, opened, closed, run, number_of, same}
-use Rattle.items.specs.Grammar.{Parsed, got, none, ◌and_then◌, open?, close?, run?, head?, named, behind?, number?, numbers?, nth, last_numbers?}
-use Rattle.items.proofs.Yields.{yields, yields_then, yields_whole}
-use Rattle.forms.specs.declared.Kind.{Kind}
-use Rattle.forms.specs.declared.Kind.TheVariants.{TotalLine, WeighingLine, NoShape}
+use Rattle.items.specs.Grammar.{Parsed, got, none, ◌and_then◌, open?, close?, run?, head?, named, behind?, number?, numbers?, nth, last_numbers?, whole?}
+use Rattle.items.proofs.Yields.{Yields, yields, nothing, yields_then}
+use Rattle.forms.specs.declared.Request.TheVariants.{TotalLine, WeighingLine}
 use Rattle.forms.specs.declared.Request.{Request}
-use Rattle.forms.specs.Shape.{plain, bare?}
+use Rattle.forms.specs.Shape.{bare?}
 use Rattle.request.specs.declared.LineWord.TheVariants.{TotalWord, WeightWord, WeighedWord, UnweighWord}
 use Rattle.request.specs.Shape.{weight?, weighed?, line?, request_of}
 use Rattle.showing.specs.Laws.{TakenAsTotal, TotalOnly, WeighingOf, TakenAsWeighing, WeighingWord, weight, weighed, unweigh, WeighingOnly}
 use Rattle.showing.proofs.Framing.{clash, read_same}
-use Rattle.showing.proofs.Forms.{sort_of, own_found}
+use Rattle.showing.proofs.Forms.{own_found}
 
 -- ---- what was read, back to the tokens
 then_got : {A B : Type 0} (p : Parsed A) (f : A → List Token → Parsed B) (b : B) (vs : List Token) → (p and_then f) ≡ got b vs → (a : A) × ((us : List Token) × (p ≡ got a us) × (f a us ≡ got b vs))
@@ -53,7 +52,7 @@ number_got ts us v e =
     (t.0, run_got ts t.1.0 t.0 t.1.1 ∙ ap (λ l. run t.0 ∷ l) n.1, n.0)
 
 -- a bracket alone
-bare_got : (k : Kind) (ts : List Token) (a : Request) → bare? k ts ≡ got a [] → ts ≡ closed ∷ []
+bare_got : (k : Request) (ts : List Token) (a : Request) → bare? k ts ≡ got a [] → ts ≡ closed ∷ []
 unfolding bare?
 bare_got k ts a e =
     let t = then_got (close? ts) _ a [] e in
@@ -77,10 +76,10 @@ pub taken_as_total : TakenAsTotal
 unfolding request_of line? head? open? run? named bare? close? same
 taken_as_total ts = (found, λ e. rw e refl)
   where
-    found : (request_of ts).kind ≡ TotalLine → ts ≡ opened ∷ run (bytes "total") ∷ closed ∷ []
+    found : request_of ts ≡ Some TotalLine → ts ≡ opened ∷ run (bytes "total") ∷ closed ∷ []
     found k =
-        let p = own_found TotalWord ts (omega arith) (ap sort_of k) in
-        p.2.1 ∙ ap (λ l. opened ∷ run (bytes "total") ∷ l) (bare_got TotalLine p.2.0 p.0 p.2.2)
+        let p = own_found TotalWord ts (omega arith) TotalLine k refl in
+        p.1 ∙ ap (λ l. opened ∷ run (bytes "total") ∷ l) (bare_got TotalLine p.0 TotalLine p.2)
 
 pub total_only : TotalOnly
 unfolding request_of line? head? open? run? named bare? close? same
@@ -91,44 +90,42 @@ total_only (closed ∷ []) more = absurd (more refl)
 total_only (closed ∷ t ∷ ts) more = refl
 
 -- ---- lines of weights
-weight_found : (i : WeightItem) (ts : List Token) → (request_of ts).kind ≡ WeighingLine (Weight i) → WeighingOf (Weight i) ts
+weight_found : (i : WeightItem) (ts : List Token) → request_of ts ≡ Some (WeighingLine (Weight i)) → WeighingOf (Weight i) ts
 unfolding weight?
 weight_found i ts k =
-    let p = own_found WeightWord ts (omega arith) (ap sort_of k) in
-    let q = then_got (number? p.2.0) _ p.0 [] p.2.2 in
-    let w = then_got (last_numbers? 1 q.1.0) _ p.0 [] q.1.2 in
-    let n = number_got p.2.0 q.1.0 q.0 q.1.1 in
+    let p = own_found WeightWord ts (omega arith) (WeighingLine (Weight i)) k refl in
+    let q = then_got (number? p.0) _ (WeighingLine (Weight i)) [] p.2 in
+    let w = then_got (last_numbers? 1 q.1.0) _ (WeighingLine (Weight i)) [] q.1.2 in
+    let n = number_got p.0 q.1.0 q.0 q.1.1 in
     let l = last_got q.1.0 w.1.0 w.0 w.1.1 in
     let z = read_same w.1.2 in
-    let same : WeighingLine (Weight (record { tonnes = q.0; height = nth w.0 0 })) ≡ WeighingLine (Weight i) = ap (λ (r : Request). r.kind) (z.0 ∙ sym p.1) ∙ k in
-    let item = weights_same same in
+    let item = weights_same z.0 in
     let behind = l.1 ∙ ap (λ m. run l.0 ∷ closed ∷ m) z.1 in
-    (n.0, (l.0, p.2.1 ∙ ap (λ m. opened ∷ run (bytes "weight") ∷ m) (n.1 ∙ ap (λ m. run n.0 ∷ m) behind), n.2 ∙ ap (λ (i : WeightItem). Some i.tonnes) item, l.2 ∙ ap (λ (i : WeightItem). Some i.height) item))
+    (n.0, (l.0, p.1 ∙ ap (λ m. opened ∷ run (bytes "weight") ∷ m) (n.1 ∙ ap (λ m. run n.0 ∷ m) behind), n.2 ∙ ap (λ (i : WeightItem). Some i.tonnes) item, l.2 ∙ ap (λ (i : WeightItem). Some i.height) item))
   where
     weights_same : {i j : WeightItem} → WeighingLine (Weight i) ≡ WeighingLine (Weight j) → i ≡ j
     weights_same e = cc
 
-weighed_found : (fs : ℕ) (ts : List Token) → (request_of ts).kind ≡ WeighingLine (Weighed fs) → WeighingOf (Weighed fs) ts
+weighed_found : (fs : ℕ) (ts : List Token) → request_of ts ≡ Some (WeighingLine (Weighed fs)) → WeighingOf (Weighed fs) ts
 unfolding weighed?
 weighed_found fs ts k =
-    let p = own_found WeighedWord ts (omega arith) (ap sort_of k) in
-    let w = then_got (last_numbers? 1 p.2.0) _ p.0 [] p.2.2 in
-    let l = last_got p.2.0 w.1.0 w.0 w.1.1 in
+    let p = own_found WeighedWord ts (omega arith) (WeighingLine (Weighed fs)) k refl in
+    let w = then_got (last_numbers? 1 p.0) _ (WeighingLine (Weighed fs)) [] p.2 in
+    let l = last_got p.0 w.1.0 w.0 w.1.1 in
     let z = read_same w.1.2 in
-    let same : WeighingLine (Weighed (nth w.0 0)) ≡ WeighingLine (Weighed fs) = ap (λ (r : Request). r.kind) (z.0 ∙ sym p.1) ∙ k in
-    (l.0, p.2.1 ∙ ap (λ m. opened ∷ run (bytes "weighed") ∷ m) (l.1 ∙ ap (λ m. run l.0 ∷ closed ∷ m) z.1), l.2 ∙ ap Some (rises_same same))
+    (l.0, p.1 ∙ ap (λ m. opened ∷ run (bytes "weighed") ∷ m) (l.1 ∙ ap (λ m. run l.0 ∷ closed ∷ m) z.1), l.2 ∙ ap Some (rises_same z.0))
   where
     rises_same : {a b : ℕ} → WeighingLine (Weighed a) ≡ WeighingLine (Weighed b) → a ≡ b
     rises_same e = cc
 
-weighing_found : (ts : List Token) (w : Weighing) → (request_of ts).kind ≡ WeighingLine w → WeighingOf w ts
+weighing_found : (ts : List Token) (w : Weighing) → request_of ts ≡ Some (WeighingLine w) → WeighingOf w ts
 weighing_found ts (Weight i) k = weight_found i ts k
 weighing_found ts (Weighed fs) k = weighed_found fs ts k
 weighing_found ts Unweigh k =
-    let p = own_found UnweighWord ts (omega arith) (ap sort_of k) in
-    p.2.1 ∙ ap (λ l. opened ∷ run (bytes "unweigh") ∷ l) (bare_got (WeighingLine Unweigh) p.2.0 p.0 p.2.2)
+    let p = own_found UnweighWord ts (omega arith) (WeighingLine Unweigh) k refl in
+    p.1 ∙ ap (λ l. opened ∷ run (bytes "unweigh") ∷ l) (bare_got (WeighingLine Unweigh) p.0 (WeighingLine Unweigh) p.2)
 
-weighing_read : (ts : List Token) (w : Weighing) → WeighingOf w ts → (request_of ts).kind ≡ WeighingLine w
+weighing_read : (ts : List Token) (w : Weighing) → WeighingOf w ts → request_of ts ≡ Some (WeighingLine w)
 unfolding request_of line? head? open? run? named bare? close? same weight? weighed? number? last_numbers? numbers?
 weighing_read ts (Weight i) (t, (h, e, n, m)) = rw (e, n, m) refl
 weighing_read ts (Weighed fs) (r, e, n) = rw (e, n) refl
@@ -138,15 +135,21 @@ pub taken_as_weighing : TakenAsWeighing
 taken_as_weighing ts w = (weighing_found ts w, weighing_read ts w)
 
 -- behind one of their words stands a line of weights, or nothing that has a shape
-Weighs : Request → Type 0
-Weighs r = (r.kind ≡ NoShape) ⊎ ((w : Weighing) × (r.kind ≡ WeighingLine w))
+Weighs : Option Request → Type 0
+Weighs o = (o ≡ None) ⊎ ((w : Weighing) × (o ≡ Some (WeighingLine w)))
+
+weighs_whole : {p : Parsed Request} → Yields (λ r. (w : Weighing) × (r ≡ WeighingLine w)) p → Weighs (whole? p)
+unfolding Weighs
+weighs_whole (yields {ts = []} (w, e)) = inr (w, ap Some e)
+weighs_whole (yields {ts = t ∷ ts} q) = inl refl
+weighs_whole nothing = inl refl
 
 only_by : (word : List ℕ) (behind : List Token) → WeighingWord word → Weighs (request_of (opened ∷ run word ∷ behind))
-unfolding request_of line? head? open? run? named same bare? weight? weighed? Weighs
+unfolding request_of line? head? open? run? named same bare? weight? weighed?
 only_by word behind weight =
-    yields_whole Weighs (plain NoShape) (yields_then (number? behind) (λ t us. yields_then (last_numbers? 1 us) (λ v ws. yields (inr (_, refl))))) (inl refl)
-only_by word behind weighed = yields_whole Weighs (plain NoShape) (yields_then (last_numbers? 1 behind) (λ v us. yields (inr (_, refl)))) (inl refl)
-only_by word behind unweigh = yields_whole Weighs (plain NoShape) (yields_then (close? behind) (λ u us. yields (inr (_, refl)))) (inl refl)
+    weighs_whole (yields_then (number? behind) (λ t us. yields_then (last_numbers? 1 us) (λ v ws. yields (_, refl))))
+only_by word behind weighed = weighs_whole (yields_then (last_numbers? 1 behind) (λ v us. yields (_, refl)))
+only_by word behind unweigh = weighs_whole (yields_then (close? behind) (λ u us. yields (_, refl)))
 
 pub weighing_only : WeighingOnly
 unfolding Weighs

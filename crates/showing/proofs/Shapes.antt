@@ -21,8 +21,7 @@ use Rattle.parts.specs.Shape.{cell_named, numbers_of, cell_by, cell?, section?, 
 use Rattle.forms.specs.declared.RuleWord.{RuleWord}
 use Rattle.forms.specs.declared.FormWord.{FormWord}
 use Rattle.forms.specs.declared.FormWord.TheVariants.{ShipWord, ColumnWord, LoadWord, HoldWord, DropWord, JudgeWord, ClearWord}
-use Rattle.forms.specs.declared.Kind.{Kind}
-use Rattle.forms.specs.declared.Kind.TheVariants.{JudgeLine, ClearLine, TotalLine, WeighingLine}
+use Rattle.forms.specs.declared.Request.TheVariants.{JudgeLine, ClearLine, TotalLine, WeighingLine}
 use Rattle.forms.specs.declared.Request.{Request}
 use Rattle.forms.specs.Shape.{rule_named, ship_by, ship?, column?, load?, mode_named, parts?, hold?, drop?, bare?, form_word, form_by, form?}
 use Rattle.request.specs.declared.LineWord.{LineWord}
@@ -226,9 +225,9 @@ module _ (most total : ℕ) (end : Stand) where
     drop_leaves k ts p =
         leaves_with (number_leaves d k ts p) (λ n us q. leaves_with (close_leaves d k us (behind_in q)) (λ u ws w. leaves w))
 
-    bare_leaves : (k : ℕ) (kind : Kind) (ts : List Token) → In d k ts → Leaves (Behind d k) (bare? kind ts)
+    bare_leaves : (k : ℕ) (r : Request) (ts : List Token) → In d k ts → Leaves (Behind d k) (bare? r ts)
     unfolding bare?
-    bare_leaves k kind ts p = leaves_with (close_leaves d k ts (behind_in p)) (λ u us q. leaves q)
+    bare_leaves k r ts p = leaves_with (close_leaves d k ts (behind_in p)) (λ u us q. leaves q)
 
     form_by_lem : (k : ℕ) (w : FormWord) (ts : List Token) → In d k ts → Leaves (Behind d (54 + k)) (form_by w ts)
     form_by_lem k ShipWord ts p = weaker (omega arith) (ship_leaves k ts p)

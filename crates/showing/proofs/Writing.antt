@@ -6,11 +6,12 @@ use native.Mathlib.Omega.{arith}
 use lib.ListN.{length, drop, set, length-append}
 use lib.Seq.{set_at}
 use Rattle.whole.specs.Bytes.{bytes}
+use Rattle.std.specs.Prelude.{Some}
 use Rattle.text.specs.Token.{closing, Token, opened, closed, run, tokens}
 use Rattle.reply.specs.Written.{over}
 use Rattle.spelling.specs.Spelling.{written, between, spell}
 use Rattle.items.specs.Grammar.{got, none, head?, open?, run?}
-use Rattle.forms.specs.declared.Kind.TheVariants.{ShowLine}
+use Rattle.forms.specs.declared.Request.TheVariants.{ShowLine}
 use Rattle.request.specs.Shape.{request_of}
 use Rattle.showing.specs.Show.{form_inside, show_reply}
 use Rattle.showing.specs.Laws.{ShowOf}
@@ -35,7 +36,7 @@ word_of : (ts form : List Token) → ShowOf ts form → head? ts ≡ got (bytes 
 unfolding head? open? run?
 word_of ts form w = rw w.0
 
-module _ (line : List ℕ) (k : (request_of (tokens line)).kind ≡ ShowLine) where
+module _ (line : List ℕ) (k : request_of (tokens line) ≡ Some ShowLine) where
   abbrev form : List Token
   form = form_inside (tokens line)
 

@@ -1,36 +1,37 @@
 -- The laws of show, and of the lines that it does not take: total and those of weights. Proved in proofs/Laws.antt, Forms.antt and Own.antt.
-use Rattle.std.specs.Prelude.{◌≡◌, List, [], ◌∷◌, ◌++◌, ◌↔◌, ℕ, ◌≤◌, length, Some}
+use Rattle.std.specs.Prelude.{◌≡◌, List, [], ◌∷◌, ◌++◌, ◌↔◌, ℕ, ◌≤◌, length, Option, Some, None, Ok}
 use Rattle.whole.specs.Bytes.{bytes}
 use Rattle.record.specs.declared.Ship.{Ship}
 use Rattle.record.specs.declared.Load.{Load}
+use Rattle.record.specs.declared.Column.{Column}
+use Rattle.record.specs.declared.Hold.{Hold}
 use Rattle.record.specs.declared.Weighing.{Weighing}
 use Rattle.record.specs.declared.Weighing.TheVariants.{Weight, Weighed, Unweigh}
 use Rattle.text.specs.Token.{Token, opened, closed, run, tokens, number_of}
-use Rattle.line_codes.specs.declared.Reading.TheVariants.{Sound}
 use Rattle.line_codes.specs.Line.{reading_of}
 use Rattle.spelling.specs.Spelling.{spell, bracket_gaps}
-use Rattle.forms.specs.declared.Kind.{Kind}
-use Rattle.forms.specs.declared.Kind.TheVariants.{ShipLine, ColumnLine, LoadLine, HoldLine, DropLine, JudgeLine, ClearLine, ShowLine, TotalLine, WeighingLine, NoShape}
+use Rattle.forms.specs.declared.Request.{Request}
+use Rattle.forms.specs.declared.Request.TheVariants.{ShipLine, ColumnLine, LoadLine, HoldLine, DropLine, JudgeLine, ClearLine, ShowLine, TotalLine, WeighingLine}
 use Rattle.request.specs.Shape.{request_of}
 use Rattle.showing.specs.Show.{form_inside, show_reply}
 
 -- document 01's forms
-pub data OfDocument01 : Kind → Type 0 where
-  ship : {s : Ship} → OfDocument01 (ShipLine s)
-  column : OfDocument01 ColumnLine
-  load : {l : Load} → OfDocument01 (LoadLine l)
-  hold : {n : ℕ} → OfDocument01 (HoldLine n)
-  drop : {n : ℕ} → OfDocument01 (DropLine n)
-  judge : OfDocument01 JudgeLine
-  clear : OfDocument01 ClearLine
+pub data OfDocument01 : Option Request → Type 0 where
+  ship : {s : Ship} → OfDocument01 (Some (ShipLine s))
+  column : {k : Column} → OfDocument01 (Some (ColumnLine k))
+  load : {l : Load} → OfDocument01 (Some (LoadLine l))
+  hold : {n : ℕ} {h : Hold} → OfDocument01 (Some (HoldLine n h))
+  drop : {n : ℕ} → OfDocument01 (Some (DropLine n))
+  judge : OfDocument01 (Some JudgeLine)
+  clear : OfDocument01 (Some ClearLine)
 
 -- these tokens are a show of this form, which is one of document 01's
 abbrev pub ShowOf : List Token → List Token → Type 0
-ShowOf ts form = (ts ≡ opened ∷ run (bytes "show") ∷ form ++ closed ∷ []) × OfDocument01 (request_of form).kind
+ShowOf ts form = (ts ≡ opened ∷ run (bytes "show") ∷ form ++ closed ∷ []) × OfDocument01 (request_of form)
 
 -- a line is taken as show exactly where it is a show of such a form: not of a show, of nothing, of two forms, of a part alone
 abbrev pub TakenAsShow : Type 0
-TakenAsShow = (ts : List Token) → ((request_of ts).kind ≡ ShowLine) ↔ ((form : List Token) × ShowOf ts form)
+TakenAsShow = (ts : List Token) → (request_of ts ≡ Some ShowLine) ↔ ((form : List Token) × ShowOf ts form)
 
 -- and that form is the one inside it
 abbrev pub InsideIsTheForm : Type 0
@@ -38,33 +39,33 @@ InsideIsTheForm = (ts form : List Token) → ShowOf ts form → form_inside ts �
 
 -- a form has at most 54 gaps beside brackets (spelling/specs/Spelling.antt): a hold of six parts with eight cells each
 abbrev pub FormsHaveFewGaps : Type 0
-FormsHaveFewGaps = (form : List Token) → OfDocument01 (request_of form).kind → bracket_gaps form ≤ 54
+FormsHaveFewGaps = (form : List Token) → OfDocument01 (request_of form) → bracket_gaps form ≤ 54
 
 -- so the reply to a line of at most 2,000 bytes has at most 2,049, its newline with it: 6 fewer for `(show` and `)`, 54 more for gaps
 abbrev pub ShowIsShort : Type 0
-ShowIsShort = (line : List ℕ) → length line ≤ 2000 → (request_of (tokens line)).kind ≡ ShowLine → length (show_reply (tokens line)) ≤ 2049
+ShowIsShort = (line : List ℕ) → length line ≤ 2000 → request_of (tokens line) ≡ Some ShowLine → length (show_reply (tokens line)) ≤ 2049
 
 -- some line reaches it
 abbrev pub SomeShowIsSoLong : Type 0
 SomeShowIsSoLong =
-    (line : List ℕ) × (length line ≡ 2000) × (reading_of line ≡ Sound) × ((request_of (tokens line)).kind ≡ ShowLine) × (length (show_reply (tokens line)) ≡ 2049)
+    (line : List ℕ) × (length line ≡ 2000) × (reading_of line ≡ Ok tt) × (request_of (tokens line) ≡ Some ShowLine) × (length (show_reply (tokens line)) ≡ 2049)
 
 -- the form inside a line that passes the tests 10 to 13, spelled, passes them too where it has at most 2,000 bytes, and asks for the same
 abbrev pub SpelledIsSound : Type 0
 SpelledIsSound =
-    (line : List ℕ) (form : List Token) → reading_of line ≡ Sound → ShowOf (tokens line) form → length (spell form) ≤ 2000 →
-    reading_of (spell form) ≡ Sound
+    (line : List ℕ) (form : List Token) → reading_of line ≡ Ok tt → ShowOf (tokens line) form → length (spell form) ≤ 2000 →
+    reading_of (spell form) ≡ Ok tt
 
 abbrev pub SpelledAsksTheSame : Type 0
 SpelledAsksTheSame = (line : List ℕ) (form : List Token) → ShowOf (tokens line) form → request_of (tokens (spell form)) ≡ request_of form
 
 -- document 02, P4: a line is taken as total exactly where it is `(total)`, whatever the spaces
 abbrev pub TakenAsTotal : Type 0
-TakenAsTotal = (ts : List Token) → ((request_of ts).kind ≡ TotalLine) ↔ (ts ≡ opened ∷ run (bytes "total") ∷ closed ∷ [])
+TakenAsTotal = (ts : List Token) → (request_of ts ≡ Some TotalLine) ↔ (ts ≡ opened ∷ run (bytes "total") ∷ closed ∷ [])
 
 -- with anything else behind its word it has no shape
 abbrev pub TotalOnly : Type 0
-TotalOnly = (behind : List Token) → (behind ≡ closed ∷ [] → ⊥) → (request_of (opened ∷ run (bytes "total") ∷ behind)).kind ≡ NoShape
+TotalOnly = (behind : List Token) → (behind ≡ closed ∷ [] → ⊥) → request_of (opened ∷ run (bytes "total") ∷ behind) ≡ None
 
 -- document 02, P5: these tokens are a line of weights that asks for this, whatever the spaces: `(weight T H)`, `(weighed FS)`, `(unweigh)`
 abbrev pub WeighingOf : Weighing → List Token → Type 0
@@ -74,7 +75,7 @@ WeighingOf (Weighed fs) ts = (r : List ℕ) × (ts ≡ opened ∷ run (bytes "we
 WeighingOf Unweigh ts = ts ≡ opened ∷ run (bytes "unweigh") ∷ closed ∷ []
 
 abbrev pub TakenAsWeighing : Type 0
-TakenAsWeighing = (ts : List Token) (w : Weighing) → ((request_of ts).kind ≡ WeighingLine w) ↔ WeighingOf w ts
+TakenAsWeighing = (ts : List Token) (w : Weighing) → (request_of ts ≡ Some (WeighingLine w)) ↔ WeighingOf w ts
 
 -- their words
 pub data WeighingWord : List ℕ → Type 0 where
@@ -86,4 +87,4 @@ pub data WeighingWord : List ℕ → Type 0 where
 abbrev pub WeighingOnly : Type 0
 WeighingOnly =
     (word : List ℕ) (behind : List Token) → WeighingWord word → ((w : Weighing) → WeighingOf w (opened ∷ run word ∷ behind) → ⊥) →
-    (request_of (opened ∷ run word ∷ behind)).kind ≡ NoShape
+    request_of (opened ∷ run word ∷ behind) ≡ None

@@ -1,6 +1,6 @@
 -- `show`: `FORM)`.
 use Rattle.std.proofs.Common.{rules, ◌≡◌}
-use mathlib.Core.Path.{refl, sym, ◌∙◌}
+use mathlib.Core.Path.{refl, sym}
 use Rattle.std.specs.Prelude.{Some}
 use Rattle.text.specs.Token.{tokens}
 use Rattle.items.proofs.Walks.{carries, carries_none}
@@ -15,24 +15,24 @@ pub returns-in_err-word : goal.returns-in_err-word
 unfolding show? form?
 returns-in_err-word c = search rules
 
-pub returns-in_err-form_word : goal.returns-in_err-form_word
+pub returns-in_err-form : goal.returns-in_err-form
 unfolding show? form?
-returns-in_err-form_word c = search rules
+returns-in_err-form c = search rules
 
 pub returns-in_err-rest : goal.returns-in_err-rest
 unfolding show? form?
 returns-in_err-rest c =
     let r = c.in_ok-word in
-    let w = c.in_ok-form_word.field-0 in
-    let n : form_word r.word.now ≡ Some w = sym c.form_word.ensures ∙ c.in_ok-form_word.was in
-    rw (r.ensures, n, carries_none carried_request (form_by w (tokens r.rest.now)) c.in_err-rest.ensures, c.from_residual-in_err-rest.ensures)
+    let w = c.in_ok-form.form in
+    let n : form_word r.word.now ≡ Some w = sym c.in_ok-form.ensures in
+    rw (r.ensures, n, carries_none carried_request (form_by w (tokens r.behind.now)) c.in_err-rest.ensures, c.from_residual-in_err-rest.ensures)
 
 pub returns : goal.returns
 unfolding show? form?
 returns c =
     let r = c.in_ok-word in
-    let w = c.in_ok-form_word.field-0 in
-    let n : form_word r.word.now ≡ Some w = sym c.form_word.ensures ∙ c.in_ok-form_word.was in
+    let w = c.in_ok-form.form in
+    let n : form_word r.word.now ≡ Some w = sym c.in_ok-form.ensures in
     let us = tokens c.in_ok-rest.rest.now in
-    let i = carries carried_request (form_by w (tokens r.rest.now)) c.in_ok-rest.field-0-0 us c.in_ok-rest.ensures in
-    rw (r.ensures, n, i.is, bare_kept ShowLine us (unfold carried_request in refl)) c.bare.ensures
+    let i = carries carried_request (form_by w (tokens r.behind.now)) c.in_ok-rest.field-0-0 us c.in_ok-rest.ensures in
+    rw (r.ensures, n, i.is, bare_kept ShowLine us (unfold carried_request in refl)) (search rules)
