@@ -1,5 +1,5 @@
 -- How large the figures of a basis within its limits are.
-use mathlib.Core.Path.{◌≡◌}
+use mathlib.Core.Path.{◌≡◌, ap₂, ◌∙◌}
 use mathlib.Core.Bool.{true, ◌&&◌}
 use Prim.Native.Nat.{ℕ, ◌+◌, ◌*◌, ◌-◌, ◌≤◌, ◌<◌}
 use native.Mathlib.Omega.{arith}
@@ -9,7 +9,8 @@ use lib.ListN.{length, get_or}
 use lib.IntN.{pos}
 use Rattle.whole.specs.Lists.{within, all}
 use Rattle.sign.specs.Sign.{plus, minus}
-use Rattle.whole.proofs.Lists.{and_true, Within, within_true, all_at}
+use Rattle.whole.proofs.Lists.{and_true, Within, within_true, all_at, tabulate_at, tabulate_length, filled_is}
+use Rattle.sign.proofs.Signs.{sub_reads}
 use Rattle.whole.proofs.Lines.{line_le}
 use Rattle.whole.proofs.Dividing.{ceil_le, floor_le}
 use Rattle.record.specs.declared.Column.{Column}
@@ -17,8 +18,8 @@ use Rattle.record.specs.declared.Load.{Load}
 use Rattle.limits.specs.Limits.{displacement, column_limits, load_limits}
 use Rattle.arms.specs.declared.Basis.{Basis}
 use Rattle.arms.specs.Angles.{angle}
-use Rattle.arms.specs.Arms.{span, past, fluid_kg, kn_arm, kg_arm, heeling_arm, diffs}
-use Rattle.arms.specs.Walk.{Bounded}
+use Rattle.arms.specs.Arms.{span, past, fluid_kg, kn_arm, kg_arm, righting_arm, heeling_arm, diff, righting_arms, heeling_arms, diffs}
+use Rattle.arms.specs.Walk.{left_over, left_overs, Small, Bounded}
 use Rattle.arms.specs.Judgeable.{Judgeable}
 use Rattle.arms.proofs.Tens.{sine_le, diff_reads}
 
@@ -100,6 +101,21 @@ module _ (b : Basis) (j : Judgeable b) where
     pub diff_minus : minus (get_or (diffs b) k (pos 0)) ≤ 10040000000
     diff_minus = omega (arith, (diff_reads b k h).minuses, kg_le, heeling_le)
 
-  -- and so for all ten
+  -- the arrays of arms can be subtracted, and their differences are the ten DIFFs
+  pub arms_small : Small (righting_arms b) (heeling_arms b)
+  unfolding righting_arm
+  arms_small =
+      record {
+        above = λ k h. rw (tabulate_at 10 (righting_arm b) k (pos 0) h) (omega (arith, (sub_reads (kn_arm b k) (kg_arm b k)).pluses, kn_le k h));
+        below = λ k h. rw (tabulate_at 10 (righting_arm b) k (pos 0) h) (omega (arith, (sub_reads (kn_arm b k) (kg_arm b k)).minuses, kg_le k h));
+        heeling = λ k h. rw (tabulate_at 10 (heeling_arm b) k 0 h) (omega (arith, heeling_le k h));
+      }
+
   pub diffs_bounded : Bounded (diffs b)
   diffs_bounded = record { above = λ k h. omega (arith, diff_plus k h); below = λ k h. omega (arith, diff_minus k h) }
+
+pub left_overs_are : (b : Basis) → left_overs (righting_arms b) (heeling_arms b) ≡ diffs b
+unfolding diff
+left_overs_are b =
+    filled_is (pos 0) 10 (diff b) (left_overs (righting_arms b) (heeling_arms b)) (tabulate_length 10 _)
+    (λ k h. tabulate_at 10 _ k (pos 0) h ∙ ap₂ left_over (tabulate_at 10 (righting_arm b) k (pos 0) h) (tabulate_at 10 (heeling_arm b) k 0 h))

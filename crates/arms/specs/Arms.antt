@@ -54,7 +54,13 @@ heeling_arm b k = ceil_div (1000 * b.weight * (20000 - angle k)) (20000 * b.load
 unfoldable pub diff : Basis → ℕ → ℤ
 diff b k = righting_arm b k -ℤ pos (heeling_arm b k)
 
--- DIFF at each of the ten angles
+-- the three at each of the ten angles
+abbrev pub righting_arms : Basis → List ℤ
+righting_arms b = tabulate 10 (righting_arm b)
+
+abbrev pub heeling_arms : Basis → List ℕ
+heeling_arms b = tabulate 10 (heeling_arm b)
+
 abbrev pub diffs : Basis → List ℤ
 diffs b = tabulate 10 (diff b)
 

@@ -6,9 +6,9 @@ ghost use Rattle.sign.specs.Sign.{plus, minus};
 ghost use Rattle.whole.specs.Divide.{ceil_div};
 ghost use Rattle.whole.specs.Line.{on_line};
 ghost use Rattle.arms.specs.Angles.{angle, sine};
-ghost use Rattle.arms.specs.Arms.{gm, righting_arm, heeling_arm, diff, diffs};
+ghost use Rattle.arms.specs.Arms.{gm, righting_arm, heeling_arm, righting_arms, heeling_arms, diffs};
 ghost use Rattle.arms.specs.Judgeable.{Judgeable};
-ghost use Rattle.arms.specs.Walk.{left_over, ReachOf, Bounded};
+ghost use Rattle.arms.specs.Walk.{left_over, left_overs, ReachOf, Small, Bounded};
 
 use record::{Column, Load};
 
@@ -130,13 +130,38 @@ fn heeling_at(b: Basis, k: usize) -> u64
     whole::divide_up(moment, 20000 * b.load.d as u64)
 }
 
-// DIFF at the k-th angle.
-#[tactic(auto, unfolding(crate::specs::Arms::diff))]
-fn diff_at(b: Basis, k: usize) -> i64
-    requires { Judgeable b × (k < 10) }
-    ensures { result ≡ diff b k }
+fn righting_arms(b: Basis) -> [i64; 10]
+    requires { Judgeable b }
+    ensures { result ≡ righting_arms b }
 {
-    left_over(righting_at(b, k), heeling_at(b, k))
+    let mut arms = [0i64; 10];
+    for k in 0..10 {
+        arms[k] = righting_at(b, k);
+    }
+    arms
+}
+
+fn heeling_arms(b: Basis) -> [u64; 10]
+    requires { Judgeable b }
+    ensures { result ≡ heeling_arms b }
+{
+    let mut arms = [0u64; 10];
+    for k in 0..10 {
+        arms[k] = heeling_at(b, k);
+    }
+    arms
+}
+
+// The ten differences.
+fn differences(righting: [i64; 10], heeling: [u64; 10]) -> [i64; 10]
+    requires { Small righting heeling }
+    ensures { result ≡ left_overs righting heeling }
+{
+    let mut rest = [0i64; 10];
+    for k in 0..10 {
+        rest[k] = left_over(righting[k], heeling[k]);
+    }
+    rest
 }
 
 // DIFF at each of the ten angles.
@@ -145,9 +170,5 @@ pub fn diffs_of(b: Basis) -> [i64; 10]
     ensures value { result ≡ diffs b }
     ensures bounded { Bounded result }
 {
-    let mut diffs = [0i64; 10];
-    for k in 0..10 {
-        diffs[k] = diff_at(b, k);
-    }
-    diffs
+    differences(righting_arms(b), heeling_arms(b))
 }

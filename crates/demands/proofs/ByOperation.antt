@@ -20,9 +20,8 @@ use Rattle.line_codes.proofs.Codes.{line_code}
 use Rattle.forms.specs.declared.Kind.{Kind}
 use Rattle.forms.specs.declared.Kind.TheVariants.{ShipLine, ColumnLine, LoadLine, HoldLine, DropLine, JudgeLine, ClearLine, ShowLine, TotalLine, WeighingLine, NoShape}
 use Rattle.condition.specs.declared.Condition.{Condition}
-use Rattle.judging.specs.declared.Judged.{Judged}
-use Rattle.judging.specs.declared.Judged.TheVariants.{Refused, Given}
-use Rattle.judging.specs.Judge.{judged_of, judged_code}
+use Rattle.std.specs.Prelude.{Ok, Err}
+use Rattle.judging.specs.Judge.{Judged, judged_of, judged_code}
 use Rattle.judging.proofs.Codes.{sound_codes}
 use Rattle.operations.proofs.Codes.{ship_codes, load_codes, column_codes, hold_codes, drop_codes, weight_codes, weighed_codes}
 use Rattle.operations.specs.Operations.{Change}
@@ -36,8 +35,8 @@ use Rattle.demands.proofs.Within.{within_sound}
 
 -- the code of judge's answer is shown
 verdict_code : (c : Condition) (j : Judged) → (verdict_given c j).code ≡ judged_code j
-verdict_code c (Refused code) = refl
-verdict_code c (Given v) = refl
+verdict_code c (Err r) = refl
+verdict_code c (Ok v) = refl
 
 -- ---- every line
 -- 14 is given where a line has no shape alone, and 16 where it is a show

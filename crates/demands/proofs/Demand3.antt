@@ -10,7 +10,7 @@ use borrow.Author.Tests.{le-leb}
 use Rattle.record.specs.declared.Column.{Column}
 use Rattle.record.specs.Held.{held}
 use Rattle.record.specs.Filler.{no_column}
-use Rattle.columns.specs.declared.Around.TheVariants.{At}
+use Rattle.std.specs.Prelude.{Some, Ok}
 use Rattle.columns.specs.Search.{columns_around}
 use Rattle.stability.specs.Verdict.{verdict_of}
 use Rattle.arms.specs.Judgeable.{Judgeable}
@@ -18,7 +18,6 @@ use Rattle.columns.proofs.Standing.{around_at}
 use Rattle.stability.proofs.Demand3.{demand3, margins}
 use Rattle.forms.specs.declared.Kind.TheVariants.{JudgeLine}
 use Rattle.condition.specs.declared.Condition.{Condition}
-use Rattle.judging.specs.declared.Judged.TheVariants.{Given}
 use Rattle.judging.specs.Judge.{basis_at, judged_at, judged_of}
 use Rattle.panel.specs.Step.{Outcome, verdict_given}
 use Rattle.reply.proofs.Shown.{verdict_shown}
@@ -38,7 +37,7 @@ module _ (c : Condition) (w : Within c) (m : Complete c) where
       let h : i < c.columns.count = omega (arith, held_length c.columns (record { places = w.places.column_places; count = w.places.column_count })) in
       ap (λ (k : Column). length k.kn) (get_or-take c.columns.count c.columns.places i no_column h) ∙ w.places.kn_places i h
 
-  judgeable : (i : ℕ) → columns_around c.load.d (held c.columns) ≡ At i → Judgeable (basis_at c i)
+  judgeable : (i : ℕ) → columns_around c.load.d (held c.columns) ≡ Some i → Judgeable (basis_at c i)
   judgeable i e =
       let s = around_at c.load.d (held c.columns) i (within_sound c w).columns e in
       record {
@@ -53,7 +52,7 @@ module _ (c : Condition) (w : Within c) (m : Complete c) where
         weight = omega (arith, w.total, m.weights);
       }
 
-  given : (i : ℕ) → columns_around c.load.d (held c.columns) ≡ At i → judged_of c ≡ Given (verdict_of c.ship (basis_at c i))
+  given : (i : ℕ) → columns_around c.load.d (held c.columns) ≡ Some i → judged_of c ≡ Ok (verdict_of c.ship (basis_at c i))
   given i e =
       ready_judged c (within_sound c w) m.ready ∙ ap (judged_at c) e ∙ rw (le-leb c.total 1000000000 (omega (arith, w.total, m.weights)))
 

@@ -18,7 +18,7 @@ use Rattle.record.specs.declared.Hold.{Hold}
 use Rattle.record.specs.declared.ItemSums.{ItemSums}
 use Rattle.record.specs.declared.Weighing.{Weighing}
 use Rattle.record.specs.declared.Weighing.TheVariants.{Weight, Weighed, Unweigh}
-use Rattle.columns.specs.declared.Added.TheVariants.{Taken}
+use Rattle.std.specs.Prelude.{Ok}
 use Rattle.record.specs.Filler.{no_column, no_part, no_hold, no_sums}
 use Rattle.limits.specs.Ranges.{ColumnRange}
 use Rattle.limits.proofs.Ranges.{ship_range, load_range, column_range, hold_range, place_range, item_range, rise_range}
@@ -152,7 +152,7 @@ put_figure c n h g p s =
     (exchange_true c.holds g.holds.long (λ i q e. let t = (g.holds.each i q).passed e in record { limits = t.limits; fits = t.fits })
     (n - 1) h (omega (arith, w.0, w.1)) s)
 
-put_column : (cs : Columns) (k : Column) → GoodColumns cs → length k.kn ≡ 10 → column_answer (held cs) k ≡ Taken → GoodColumns (with_column cs k)
+put_column : (cs : Columns) (k : Column) → GoodColumns cs → length k.kn ≡ 10 → column_answer (held cs) k ≡ Ok tt → GoodColumns (with_column cs k)
 put_column cs k g ten e =
     record {
       fitting = fitting_more cs k g.fitting e;

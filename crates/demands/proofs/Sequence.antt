@@ -6,7 +6,7 @@ use lib.Dec.{ltb}
 use lib.Seq.{append_snoc}
 use Rattle.whole.proofs.Lists.{and_true}
 use Rattle.record.specs.declared.Column.{Column}
-use Rattle.columns.specs.declared.Added.TheVariants.{Taken}
+use Rattle.std.specs.Prelude.{Ok}
 use Rattle.limits.specs.Limits.{column_limits}
 use Rattle.record.specs.Held.{held}
 use Rattle.columns.specs.Columns.{is_above, column_answer, in_order, with_column}
@@ -44,7 +44,7 @@ taken_order c (k ∷ ks) f o t =
     let r = taken_order (next c k t.0) ks (fitting_more c.columns k f e) (rw h (order_more (held c.columns) k o p.limits p.above)) (rw (next_is c k t.0) at t.1) in
     rw (h, append_snoc) at r
 
-pub taken_more : (c : Condition) (ks : List Column) (k : Column) → Fitting c.columns → ColumnsTaken c ks → column_answer (held c.columns ++ ks) k ≡ Taken → ColumnsTaken c (ks ++ k ∷ [])
+pub taken_more : (c : Condition) (ks : List Column) (k : Column) → Fitting c.columns → ColumnsTaken c ks → column_answer (held c.columns ++ ks) k ≡ Ok tt → ColumnsTaken c (ks ++ k ∷ [])
 taken_more c [] k f t a = (ap (λ ch. ch.code) (column_taken c k (rw append-nil at a)), tt)
 taken_more c (m ∷ ks) k f t a =
     let e = column_passed c m t.0 in

@@ -23,8 +23,7 @@ use Rattle.reply.specs.Shown.{RefusalShown}
 use Rattle.reply.proofs.Shown.{answer_shown, refusal_shown}
 use Rattle.condition.specs.declared.Condition.{Condition}
 use Rattle.condition.proofs.Empty.{starts_empty_lem}
-use Rattle.judging.specs.declared.Judged.{Judged}
-use Rattle.judging.specs.Judge.{basis_at, judged_of}
+use Rattle.judging.specs.Judge.{Judged, basis_at, judged_of, refusal_code}
 use Rattle.judging.proofs.Shown.{refusals, judged_by_lem}
 use Rattle.operations.proofs.Stores.{ship_stored, load_stored, column_stored, hold_stored, hold_dropped, item_stored, weighed_stored, items_removed}
 use Rattle.panel.specs.Step.{Outcome, verdict_given, form_shown, step_of}
@@ -105,7 +104,7 @@ no_verdict ShortOfArea e = let z : ◌≡◌ {A = ℕ} 0 1 = cc in omega arith
 judge_shows : (c : Condition) → is_one_of refusals (verdict_given c (judged_of c)).code ≡ true → RefusalShown (verdict_given c (judged_of c)).code (verdict_given c (judged_of c)).reply
 judge_shows c =
     judged_by_lem c (λ (j : Judged). is_one_of refusals (verdict_given c j).code ≡ true → RefusalShown (verdict_given c j).code (verdict_given c j).reply)
-    (λ n e t. refusal_shown n)
+    (λ r t. refusal_shown (refusal_code r))
     (λ i t. absurd (no_verdict (verdict_of c.ship (basis_at c i)).judgement t))
 
 -- ---- all of them

@@ -21,9 +21,8 @@ use Rattle.forms.specs.declared.Kind.TheVariants.{ShipLine, ColumnLine, LoadLine
 use Rattle.forms.specs.declared.Request.{Request}
 use Rattle.request.specs.Shape.{request_of}
 use Rattle.condition.specs.declared.Condition.{Condition}
-use Rattle.judging.specs.declared.Judged.{Judged}
-use Rattle.judging.specs.Judge.{basis_at}
-use Rattle.judging.proofs.Shown.{refusals, judged_by_lem}
+use Rattle.judging.specs.Judge.{Judged, basis_at, refusal_code}
+use Rattle.judging.proofs.Shown.{refusals, refusal_listed, judged_by_lem}
 use Rattle.operations.specs.Operations.{Change}
 use Rattle.operations.proofs.Right.{Right, right_taken, right_same, right_if, ship_right, load_right, column_right, hold_right, drop_right, weighing_codes, weighing_right}
 use Rattle.panel.specs.Step.{Outcome, verdict_given, show_code, outcome_by, outcome_of, outcome_after, step_of}
@@ -98,7 +97,7 @@ module _ (c : Condition) where
     right_by (DropLine n) h col = drop_right c n
     right_by JudgeLine h col =
         judged_by_lem c (λ (j : Judged). Right (codes_of JudgeLine) c (changed (verdict_given c j)))
-        (λ n e. right_same c n (right_refusal n e))
+        (λ r. right_same c _ (right_refusal (refusal_code r) (refusal_listed r)))
         (λ i. right_same c _ (judgement_listed (verdict_of c.ship (basis_at c i)).judgement))
     right_by ClearLine h col = right_taken c _ refl
     right_by ShowLine h col = right_same c (show_code lent) (show_listed (ltb lent 2100))

@@ -13,9 +13,8 @@ use Rattle.forms.specs.declared.Kind.TheVariants.{ShipLine, ColumnLine, LoadLine
 use Rattle.forms.specs.declared.Request.{Request}
 use Rattle.text.specs.Token.{Token}
 use Rattle.condition.specs.declared.Condition.{Condition}
-use Rattle.judging.specs.declared.Judged.{Judged}
-use Rattle.judging.specs.declared.Judged.TheVariants.{Refused, Given}
-use Rattle.judging.specs.Judge.{judged_of}
+use Rattle.std.specs.Prelude.{Ok, Err}
+use Rattle.judging.specs.Judge.{Judged, judged_of}
 use Rattle.storing.proofs.Taking.{taken_is}
 use Rattle.operations.specs.Operations.{weighing_operation}
 use Rattle.operations.proofs.Effects.{ship_effect, load_effect, column_passed, column_effect, hold_passed, hold_effect, drop_passed, drop_effect, weight_passed, weight_effect, weighed_effect, unweigh_taken}
@@ -27,8 +26,8 @@ use Rattle.effects.specs.Effect.{weighing_effect, effect_by, effect_of}
 module _ (c : Condition) where
   -- judge changes nothing
   pub judge_same : (j : Judged) → (verdict_given c j).after ≡ c
-  judge_same (Refused code) = refl
-  judge_same (Given v) = refl
+  judge_same (Err r) = refl
+  judge_same (Ok v) = refl
 
   weighing_by : (w : Weighing) → (weighing_operation c w).code ≡ 0 → weighing_effect c w ≡ (weighing_operation c w).after
   weighing_by (Weight i) e = rw (weight_passed c i e).1 (weight_effect c i e)

@@ -1,5 +1,5 @@
 -- Document 01, Every line, and document 02: what a line and a lent buffer's length give: code, reply and the condition after.
-use Rattle.std.specs.Prelude.{◌≡◌, cond, List, [], ◌∷◌, ℕ, ltb, length}
+use Rattle.std.specs.Prelude.{◌≡◌, cond, Ok, Err, List, [], ◌∷◌, ℕ, ltb, length}
 use Rattle.record.specs.declared.Column.{Column}
 use Rattle.record.specs.declared.Hold.{Hold}
 use Rattle.stability.specs.Verdict.{judgement_code}
@@ -17,9 +17,7 @@ use Rattle.showing.specs.Show.{show_reply}
 use Rattle.condition.specs.declared.Condition.{Condition}
 use Rattle.condition.specs.Condition.{empty}
 use Rattle.panel.specs.declared.Stepped.{Stepped}
-use Rattle.judging.specs.declared.Judged.{Judged}
-use Rattle.judging.specs.declared.Judged.TheVariants.{Refused, Given}
-use Rattle.judging.specs.Judge.{judged_of}
+use Rattle.judging.specs.Judge.{Judged, judged_of, refusal_code}
 use Rattle.operations.specs.Operations.{Change, taken, refused_with, ship_operation, load_operation, column_operation, hold_operation, drop_operation, weighing_operation}
 
 pub record Outcome : Type 0 where
@@ -33,8 +31,8 @@ answered ch = record { code = ch.code; reply = answer_reply ch.code; after = ch.
 
 -- judge changes nothing
 abbrev pub verdict_given : Condition → Judged → Outcome
-verdict_given c (Refused code) = record { code = code; reply = refusal_reply code; after = c }
-verdict_given c (Given v) =
+verdict_given c (Err r) = record { code = refusal_code r; reply = refusal_reply (refusal_code r); after = c }
+verdict_given c (Ok v) =
     record {
       code = judgement_code v.judgement;
       reply = verdict_reply (judgement_code v.judgement) v.gm v.diff v.upper v.area;

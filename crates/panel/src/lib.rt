@@ -15,9 +15,8 @@ ghost use Rattle.panel.specs.Handed.{moment_found, handed_on, Replies};
 
 use condition::Condition;
 use forms::{Kind, Request};
-use grain::Weighed;
+use grain::NotWeighed;
 use hearing::Heard;
-use judging::Judged;
 
 // The least buffer that may be lent for a reply, and for the reply of show, in bytes.
 const LEAST_ROOM: usize = 96;
@@ -56,7 +55,7 @@ fn answer_with(code: u8, out: &mut [u8]) -> Replied
 }
 
 // A hold line is answered with the code of its weighing, and hands its moment on.
-fn answer_weighed(w: Weighed, out: &mut [u8]) -> Replied
+fn answer_weighed(w: Result<u64, NotWeighed>, out: &mut [u8]) -> Replied
     requires { 96 ≤ length out.old }
     ensures { Replies (weighed_code w) (answer_reply (weighed_code w)) (weighed_moment w) result out.old out.new }
 {
@@ -85,7 +84,8 @@ fn give_verdict(c: Condition, out: &mut [u8]) -> Replied
 {
     let j = judging::judge(c);
     match j {
-        Judged::Refused(code) => {
+        Err(r) => {
+            let code = judging::refusal_code(r);
             let len = reply::refusal(out, code);
             Replied {
                 code,
@@ -93,9 +93,8 @@ fn give_verdict(c: Condition, out: &mut [u8]) -> Replied
                 moment: 0,
             }
         }
-        Judged::Given(v) => {
-            let judgement = v.judgement;
-            let code = judging::judgement_code(judgement);
+        Ok(v) => {
+            let code = judging::judgement_code(v.judgement);
             let len = reply::verdict(out, code, v.gm, v.diff, v.upper, v.area);
             Replied {
                 code,

@@ -17,7 +17,7 @@ use Rattle.record.specs.declared.Hold.{Hold}
 use Rattle.record.specs.declared.WeightItem.{WeightItem}
 use Rattle.record.specs.Filler.{no_column, no_columns, no_part, no_hold, no_item, no_sums}
 use Rattle.record.specs.Held.{held, parts_of}
-use Rattle.columns.specs.declared.Added.TheVariants.{Taken}
+use Rattle.std.specs.Prelude.{Ok}
 use Rattle.columns.specs.Columns.{column_answer, with_column}
 use Rattle.limits.specs.Limits.{ship_limits, load_limits}
 use Rattle.grain.specs.Sum.{weight_moment}
@@ -55,7 +55,7 @@ module _ (lent : ℕ) (room : 96 ≤ lent) (c : Condition) where
   unfolding outcome_of
   load_does l e = line_does (print_load l ((load_range l).0 e)) c lent room ∙ ap answered (load_taken c l e)
 
-  column_does : (k : Column) → length k.kn ≡ 10 → column_answer (held c.columns) k ≡ Taken → step_of c (spell (column_tokens k)) lent ≡ answered (taken (with_columns c (with_column c.columns k)))
+  column_does : (k : Column) → length k.kn ≡ 10 → column_answer (held c.columns) k ≡ Ok tt → step_of c (spell (column_tokens k)) lent ≡ answered (taken (with_columns c (with_column c.columns k)))
   unfolding outcome_of
   column_does k n e =
       line_does (print_column k ((column_range k).0 (taken_is (held c.columns) k e).limits) n) c lent room

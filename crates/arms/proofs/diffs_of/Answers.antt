@@ -1,14 +1,13 @@
 -- `diffs_of`: DIFF at each of the ten angles.
-use mathlib.Core.Path.{◌≡◌}
-use native.Mathlib.Omega.{arith}
-use lib.IntN.{pos}
-use Rattle.whole.proofs.Lists.{filled_is}
-use Rattle.arms.specs.Arms.{diff, diffs}
-use Rattle.arms.proofs.Bounds.{diffs_bounded}
+use mathlib.Core.Path.{◌≡◌, ◌∙◌}
+use Rattle.arms.specs.Arms.{diffs}
+use Rattle.arms.proofs.Bounds.{arms_small, diffs_bounded, left_overs_are}
 use Rattle.arms.proofs.diffs_of.Goals as goal
+
+pub differences-requires : goal.differences-requires
+differences-requires c = rw (c.righting_arms.ensures, c.heeling_arms.ensures) (arms_small c.args.b c.requires)
 
 pub returns : goal.returns
 returns c =
-    let v = c.loop-k.invariant in
-    let e : c.loop-k.diffs ≡ diffs c.args.b = filled_is (pos 0) 10 (diff c.args.b) c.loop-k.diffs v.1 (λ i h. v.2 i (omega arith)) in
+    let e : c.differences.result ≡ diffs c.args.b = c.differences.ensures ∙ rw (c.righting_arms.ensures, c.heeling_arms.ensures) (left_overs_are c.args.b) in
     record { value = e; bounded = rw e (diffs_bounded c.args.b c.requires) }
