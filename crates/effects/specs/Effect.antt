@@ -1,7 +1,5 @@
 -- The effect that the program takes last. The laws of `panel` lead from this to its `step_of`; no reader has to believe it.
 use Rattle.std.specs.Prelude.{cond, ℕ, leb, length}
-use Rattle.record.specs.declared.Column.{Column}
-use Rattle.record.specs.declared.Hold.{Hold}
 use Rattle.record.specs.declared.Weighing.{Weighing}
 use Rattle.record.specs.declared.Weighing.TheVariants.{Weight, Weighed, Unweigh}
 use Rattle.record.specs.Held.{held}
@@ -9,8 +7,7 @@ use Rattle.record.specs.Filler.{no_hold, no_sums}
 use Rattle.limits.specs.Limits.{place_limits}
 use Rattle.columns.specs.Columns.{with_column}
 use Rattle.weights.specs.Weights.{has_room, with_item, weighed_load}
-use Rattle.forms.specs.declared.Kind.{Kind}
-use Rattle.forms.specs.declared.Kind.TheVariants.{ShipLine, ColumnLine, LoadLine, HoldLine, DropLine, JudgeLine, ClearLine, ShowLine, TotalLine, WeighingLine, NoShape}
+use Rattle.forms.specs.declared.Request.TheVariants.{ShipLine, ColumnLine, LoadLine, HoldLine, DropLine, JudgeLine, ClearLine, ShowLine, TotalLine, WeighingLine}
 use Rattle.forms.specs.declared.Request.{Request}
 use Rattle.condition.specs.declared.Condition.{Condition}
 use Rattle.condition.specs.Condition.{empty}
@@ -24,18 +21,14 @@ weighing_effect c Unweigh = with_sums c no_sums
 
 -- what a request puts into the condition, w being the moment of its hold. It is taken only where the request is answered with 00; elsewhere its value is free,
 -- and these are the simplest
-abbrev pub effect_by : Condition → Kind → Hold → Column → (w : ℕ) → Condition
-effect_by c (ShipLine s) h k w = with_ship c s
-effect_by c ColumnLine h k w = cond (leb 20 (length (held c.columns))) c (with_columns c (with_column c.columns k))
-effect_by c (LoadLine l) h k w = with_load c l
-effect_by c (HoldLine n) h k w = cond (place_limits n) (with_hold c n h w) c
-effect_by c (DropLine n) h k w = cond (place_limits n) (with_hold c n no_hold 0) c
-effect_by c JudgeLine h k w = c
-effect_by c ClearLine h k w = empty
-effect_by c ShowLine h k w = c
-effect_by c TotalLine h k w = c
-effect_by c (WeighingLine u) h k w = weighing_effect c u
-effect_by c NoShape h k w = c
-
 unfoldable pub effect_of : Condition → Request → (w : ℕ) → Condition
-effect_of c r w = effect_by c r.kind r.hold r.column w
+effect_of c (ShipLine s) w = with_ship c s
+effect_of c (ColumnLine k) w = cond (leb 20 (length (held c.columns))) c (with_columns c (with_column c.columns k))
+effect_of c (LoadLine l) w = with_load c l
+effect_of c (HoldLine n h) w = cond (place_limits n) (with_hold c n h w) c
+effect_of c (DropLine n) w = cond (place_limits n) (with_hold c n no_hold 0) c
+effect_of c JudgeLine w = c
+effect_of c ClearLine w = empty
+effect_of c ShowLine w = c
+effect_of c TotalLine w = c
+effect_of c (WeighingLine u) w = weighing_effect c u

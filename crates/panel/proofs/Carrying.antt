@@ -1,9 +1,10 @@
 -- A request as it is carried has the outcome of the request as it was read.
-use mathlib.Core.Path.{◌≡◌, refl, sym, ◌∙◌, ap}
+use mathlib.Core.Path.{◌≡◌, refl, ◌∙◌, ap}
 use mathlib.Core.Bool.{Bool, true, false}
 use mathlib.Core.List.{List}
 use Prim.Native.Nat.{ℕ}
 use native.Mathlib.Omega.{arith}
+use Rattle.std.specs.Prelude.{Option, Some, None, option_map}
 use Rattle.whole.proofs.Lists.{and_false}
 use Rattle.text.specs.Token.{Token}
 use Rattle.record.specs.declared.Ship.{Ship}
@@ -17,16 +18,15 @@ use Rattle.limits.specs.Limits.{rise, ship_limits, load_limits, column_limits, h
 use Rattle.columns.specs.Columns.{column_answer}
 use Rattle.items.specs.Carried.{carried}
 use Rattle.items.proofs.Kept.{same_within, kept_within}
-use Rattle.forms.specs.declared.Kind.{Kind}
-use Rattle.forms.specs.declared.Kind.TheVariants.{ShipLine, ColumnLine, LoadLine, HoldLine, DropLine, JudgeLine, ClearLine, ShowLine, TotalLine, WeighingLine, NoShape}
 use Rattle.forms.specs.declared.Request.{Request}
-use Rattle.forms.specs.Carried.{carried_ship, carried_load, carried_column, carried_hold, carried_item, carried_weighing, carried_kind, carried_request}
+use Rattle.forms.specs.declared.Request.TheVariants.{ShipLine, ColumnLine, LoadLine, HoldLine, DropLine, JudgeLine, ClearLine, ShowLine, TotalLine, WeighingLine}
+use Rattle.forms.specs.Carried.{carried_ship, carried_load, carried_column, carried_hold, carried_item, carried_weighing, carried_request}
 use Rattle.forms.proofs.Kept.{same_ship, same_load, same_column, same_hold, same_item, kept_ship, kept_load, kept_column, kept_item}
 use Rattle.request.specs.Shape.{request_of}
 use Rattle.request.proofs.Tidy.{kept_hold}
 use Rattle.condition.specs.declared.Condition.{Condition}
 use Rattle.operations.specs.Operations.{ship_operation, load_operation, column_operation, hold_operation, weighing_operation}
-use Rattle.panel.specs.Step.{outcome_by, outcome_of}
+use Rattle.panel.specs.Step.{outcome_of}
 
 module _ (c : Condition) where
   ship_by_lem : (s : Ship) (x : Bool) → ship_limits s ≡ x → ship_operation c (carried_ship s) ≡ ship_operation c s
@@ -65,37 +65,33 @@ module _ (c : Condition) where
   weighing_by Unweigh = refl
 
   module _ (ts : List Token) (n : ℕ) where
-    same_outcome : (k : Kind) (h : Hold) (col : Column) → (hold_limits h ≡ true → carried_hold h ≡ h) → outcome_by c ts n (carried_kind k) (carried_hold h) (carried_column col) ≡ outcome_by c ts n k h col
-    same_outcome (ShipLine s) h col k = rw (ship_by_lem s (ship_limits s) refl)
-    same_outcome ColumnLine h col k = rw (column_by col (column_limits col) refl)
-    same_outcome (LoadLine l) h col k = rw (load_by l (load_limits l) refl)
-    same_outcome (HoldLine m) h col k = rw (hold_by m h (hold_limits h) refl k)
-    same_outcome (DropLine m) h col k = refl
-    same_outcome JudgeLine h col k = refl
-    same_outcome ClearLine h col k = refl
-    same_outcome ShowLine h col k = refl
-    same_outcome TotalLine h col k = refl
-    same_outcome (WeighingLine w) h col k = rw (weighing_by w)
-    same_outcome NoShape h col k = refl
-
-    pub carried_outcome : outcome_of c ts n (carried_request (request_of ts)) ≡ outcome_of c ts n (request_of ts)
+    pub carried_outcome : (r : Request) → request_of ts ≡ Some r → outcome_of c ts n (carried_request r) ≡ outcome_of c ts n r
     unfolding outcome_of carried_request
-    carried_outcome = same_outcome (request_of ts).kind (request_of ts).hold (request_of ts).column (kept_hold ts)
+    carried_outcome (ShipLine s) e = rw (ship_by_lem s (ship_limits s) refl)
+    carried_outcome (ColumnLine k) e = rw (column_by k (column_limits k) refl)
+    carried_outcome (LoadLine l) e = rw (load_by l (load_limits l) refl)
+    carried_outcome (HoldLine m h) e = rw (hold_by m h (hold_limits h) refl (kept_hold ts m h e))
+    carried_outcome (DropLine m) e = refl
+    carried_outcome JudgeLine e = refl
+    carried_outcome ClearLine e = refl
+    carried_outcome ShowLine e = refl
+    carried_outcome TotalLine e = refl
+    carried_outcome (WeighingLine w) e = rw (weighing_by w)
 
 -- a show that is carried was read
-carried_by : (k : Kind) → carried_kind k ≡ ShowLine → k ≡ ShowLine
-carried_by (ShipLine s) e = cc
-carried_by ColumnLine e = cc
-carried_by (LoadLine l) e = cc
-carried_by (HoldLine n) e = cc
-carried_by (DropLine n) e = cc
-carried_by JudgeLine e = cc
-carried_by ClearLine e = cc
-carried_by ShowLine e = refl
-carried_by TotalLine e = cc
-carried_by (WeighingLine w) e = cc
-carried_by NoShape e = cc
-
-pub carried_show : (ts : List Token) (r : Request) → r ≡ carried_request (request_of ts) → r.kind ≡ ShowLine → (request_of ts).kind ≡ ShowLine
+carried_by : (o : Option Request) → option_map carried_request o ≡ Some ShowLine → o ≡ Some ShowLine
 unfolding carried_request
-carried_show ts r e k = carried_by (request_of ts).kind (ap (λ (q : Request). q.kind) (sym e) ∙ k)
+carried_by None e = cc
+carried_by (Some (ShipLine s)) e = cc
+carried_by (Some (ColumnLine k)) e = cc
+carried_by (Some (LoadLine l)) e = cc
+carried_by (Some (HoldLine n h)) e = cc
+carried_by (Some (DropLine n)) e = cc
+carried_by (Some JudgeLine) e = cc
+carried_by (Some ClearLine) e = cc
+carried_by (Some ShowLine) e = refl
+carried_by (Some TotalLine) e = cc
+carried_by (Some (WeighingLine w)) e = cc
+
+pub carried_show : (ts : List Token) (r : Request) → option_map carried_request (request_of ts) ≡ Some r → r ≡ ShowLine → request_of ts ≡ Some ShowLine
+carried_show ts r e k = carried_by (request_of ts) (e ∙ ap Some k)

@@ -4,39 +4,36 @@ use mathlib.Core.List.{List}
 use Prim.Native.Nat.{ℕ, ◌≤◌}
 use native.Mathlib.Omega.{arith}
 use borrow.Author.Tests.{le-ltb}
-use Rattle.record.specs.declared.Column.{Column}
-use Rattle.record.specs.declared.Hold.{Hold}
 use Rattle.text.specs.Token.{Token, tokens}
-use Rattle.line_codes.specs.declared.Reading.{Reading}
-use Rattle.line_codes.specs.declared.Reading.TheVariants.{Sound, TooLong, BadByte, NotOneForm, BadNumber}
-use Rattle.line_codes.specs.Line.{reading_of}
-use Rattle.forms.specs.declared.Kind.{Kind}
-use Rattle.forms.specs.declared.Kind.TheVariants.{ShipLine, ColumnLine, LoadLine, HoldLine, DropLine, JudgeLine, ClearLine, ShowLine, TotalLine, WeighingLine, NoShape}
+use Rattle.std.specs.Prelude.{Option, Some, None, Ok, Err}
+use Rattle.line_codes.specs.Line.{Reading, reading_of}
+use Rattle.forms.specs.declared.Request.{Request}
+use Rattle.forms.specs.declared.Request.TheVariants.{ShipLine, ColumnLine, LoadLine, HoldLine, DropLine, JudgeLine, ClearLine, ShowLine, TotalLine, WeighingLine}
 use Rattle.request.specs.Shape.{request_of}
 use Rattle.condition.specs.declared.Condition.{Condition}
-use Rattle.panel.specs.Step.{outcome_by, outcome_of, outcome_after, step_of}
+use Rattle.panel.specs.Step.{outcome_of, outcome_asked, outcome_after, step_of}
 
 module _ (c : Condition) (n : ℕ) (p : 2100 ≤ n) where
-  any_by : (ts : List Token) (k : Kind) (h : Hold) (col : Column) → outcome_by c ts n k h col ≡ outcome_by c ts 2100 k h col
-  any_by ts (ShipLine s) h col = refl
-  any_by ts ColumnLine h col = refl
-  any_by ts (LoadLine l) h col = refl
-  any_by ts (HoldLine m) h col = refl
-  any_by ts (DropLine m) h col = refl
-  any_by ts JudgeLine h col = refl
-  any_by ts ClearLine h col = refl
-  any_by ts ShowLine h col = rw (le-ltb n 2100 p)
-  any_by ts TotalLine h col = refl
-  any_by ts (WeighingLine w) h col = refl
-  any_by ts NoShape h col = refl
-
-  any_after : (line : List ℕ) (r : Reading) → outcome_after c line n r ≡ outcome_after c line 2100 r
+  any_by : (ts : List Token) (r : Request) → outcome_of c ts n r ≡ outcome_of c ts 2100 r
   unfolding outcome_of
-  any_after line Sound = let r = request_of (tokens line) in any_by (tokens line) r.kind r.hold r.column
-  any_after line TooLong = refl
-  any_after line BadByte = refl
-  any_after line NotOneForm = refl
-  any_after line BadNumber = refl
+  any_by ts (ShipLine s) = refl
+  any_by ts (ColumnLine k) = refl
+  any_by ts (LoadLine l) = refl
+  any_by ts (HoldLine m h) = refl
+  any_by ts (DropLine m) = refl
+  any_by ts JudgeLine = refl
+  any_by ts ClearLine = refl
+  any_by ts ShowLine = rw (le-ltb n 2100 p)
+  any_by ts TotalLine = refl
+  any_by ts (WeighingLine w) = refl
+
+  any_asked : (ts : List Token) (o : Option Request) → outcome_asked c ts n o ≡ outcome_asked c ts 2100 o
+  any_asked ts (Some r) = any_by ts r
+  any_asked ts None = refl
+
+  any_after : (line : List ℕ) (t : Reading) → outcome_after c line n t ≡ outcome_after c line 2100 t
+  any_after line (Ok u) = any_asked (tokens line) (request_of (tokens line))
+  any_after line (Err f) = refl
 
   pub any_room : (line : List ℕ) → step_of c line n ≡ step_of c line 2100
   unfolding step_of

@@ -1,16 +1,12 @@
 -- Document 01, Every line, and document 02: what a line and a lent buffer's length give: code, reply and the condition after.
-use Rattle.std.specs.Prelude.{◌≡◌, cond, Ok, Err, List, [], ◌∷◌, ℕ, ltb, length}
-use Rattle.record.specs.declared.Column.{Column}
-use Rattle.record.specs.declared.Hold.{Hold}
+use Rattle.std.specs.Prelude.{◌≡◌, cond, Option, Some, None, Ok, Err, List, [], ◌∷◌, ℕ, ltb, length}
 use Rattle.stability.specs.Verdict.{judgement_code}
-use Rattle.line_codes.specs.declared.Reading.{Reading}
-use Rattle.line_codes.specs.declared.Reading.TheVariants.{Sound, TooLong, BadByte, NotOneForm, BadNumber}
+use Rattle.line_codes.specs.declared.Fault.TheVariants.{NoShape}
 use Rattle.text.specs.Token.{Token, tokens}
-use Rattle.line_codes.specs.Line.{reading_of, reading_code}
-use Rattle.forms.specs.declared.Kind.{Kind}
-use Rattle.forms.specs.declared.Kind.TheVariants.{ShipLine, ColumnLine, LoadLine, HoldLine, DropLine, JudgeLine, ClearLine, ShowLine, TotalLine, WeighingLine, NoShape}
+use Rattle.line_codes.specs.Line.{Reading, reading_of, fault_code}
 use Rattle.forms.specs.declared.Request.{Request}
-use Rattle.request.specs.Shape.{request_of, kind_code}
+use Rattle.forms.specs.declared.Request.TheVariants.{ShipLine, ColumnLine, LoadLine, HoldLine, DropLine, JudgeLine, ClearLine, ShowLine, TotalLine, WeighingLine}
+use Rattle.request.specs.Shape.{request_of}
 use Rattle.reply.specs.Written.{over}
 use Rattle.reply.specs.Replies.{answer_reply, refusal_reply, verdict_reply, total_reply}
 use Rattle.showing.specs.Show.{show_reply}
@@ -62,30 +58,28 @@ form_shown c ts n = record { code = show_code n; reply = show_answer ts n; after
 abbrev pub total_shown : Condition → Outcome
 total_shown c = record { code = 0; reply = total_reply c.total; after = c }
 
--- by the request of a line with these tokens: 14 where it has no shape
-abbrev pub outcome_by : Condition → List Token → (n : ℕ) → Kind → Hold → Column → Outcome
-outcome_by c ts n (ShipLine s) h k = answered (ship_operation c s)
-outcome_by c ts n ColumnLine h k = answered (column_operation c k)
-outcome_by c ts n (LoadLine l) h k = answered (load_operation c l)
-outcome_by c ts n (HoldLine m) h k = answered (hold_operation c m h)
-outcome_by c ts n (DropLine m) h k = answered (drop_operation c m)
-outcome_by c ts n JudgeLine h k = verdict_given c (judged_of c)
-outcome_by c ts n ClearLine h k = answered (taken empty)
-outcome_by c ts n ShowLine h k = form_shown c ts n
-outcome_by c ts n TotalLine h k = total_shown c
-outcome_by c ts n (WeighingLine w) h k = answered (weighing_operation c w)
-outcome_by c ts n NoShape h k = answered (refused_with (kind_code NoShape) c)
-
+-- by the request of a line with these tokens
 unfoldable pub outcome_of : Condition → List Token → (n : ℕ) → Request → Outcome
-outcome_of c ts n r = outcome_by c ts n r.kind r.hold r.column
+outcome_of c ts n (ShipLine s) = answered (ship_operation c s)
+outcome_of c ts n (ColumnLine k) = answered (column_operation c k)
+outcome_of c ts n (LoadLine l) = answered (load_operation c l)
+outcome_of c ts n (HoldLine m h) = answered (hold_operation c m h)
+outcome_of c ts n (DropLine m) = answered (drop_operation c m)
+outcome_of c ts n JudgeLine = verdict_given c (judged_of c)
+outcome_of c ts n ClearLine = answered (taken empty)
+outcome_of c ts n ShowLine = form_shown c ts n
+outcome_of c ts n TotalLine = total_shown c
+outcome_of c ts n (WeighingLine w) = answered (weighing_operation c w)
+
+-- 14 where it has no shape
+abbrev pub outcome_asked : Condition → List Token → (n : ℕ) → Option Request → Outcome
+outcome_asked c ts n (Some r) = outcome_of c ts n r
+outcome_asked c ts n None = answered (refused_with (fault_code NoShape) c)
 
 -- by the tests of the whole line: 10 to 13
 abbrev pub outcome_after : Condition → List ℕ → (n : ℕ) → Reading → Outcome
-outcome_after c line n Sound = outcome_of c (tokens line) n (request_of (tokens line))
-outcome_after c line n TooLong = answered (refused_with (reading_code TooLong) c)
-outcome_after c line n BadByte = answered (refused_with (reading_code BadByte) c)
-outcome_after c line n NotOneForm = answered (refused_with (reading_code NotOneForm) c)
-outcome_after c line n BadNumber = answered (refused_with (reading_code BadNumber) c)
+outcome_after c line n (Ok u) = outcome_asked c (tokens line) n (request_of (tokens line))
+outcome_after c line n (Err f) = answered (refused_with (fault_code f) c)
 
 -- a line with a lent buffer of n bytes; under 96 bytes: 15, reply length 0
 unfoldable pub step_of : Condition → List ℕ → (n : ℕ) → Outcome

@@ -1,9 +1,9 @@
 // The reply to what is heard of a line, and the step of one line.
 #![tactic(auto)]
 
-ghost use Rattle.std.specs.Prelude.{◌≡◌, ◌≤◌, length};
+ghost use Rattle.std.specs.Prelude.{◌≡◌, ◌≤◌, length, Some, option_map};
 ghost use Rattle.text.specs.Token.{tokens};
-ghost use Rattle.forms.specs.declared.Kind.TheVariants.{ShowLine};
+ghost use Rattle.forms.specs.declared.Request.TheVariants.{ShowLine};
 ghost use Rattle.forms.specs.Carried.{carried_request};
 ghost use Rattle.request.specs.Shape.{request_of};
 ghost use Rattle.hearing.specs.Hearing.{heard_of};
@@ -14,9 +14,9 @@ ghost use Rattle.panel.specs.Step.{verdict_given, show_code, show_answer, outcom
 ghost use Rattle.panel.specs.Handed.{moment_found, handed_on, Replies};
 
 use condition::Condition;
-use forms::{Kind, Request};
+use forms::Request;
 use grain::NotWeighed;
-use hearing::Heard;
+use line_codes::Fault;
 
 // The least buffer that may be lent for a reply, and for the reply of show, in bytes.
 const LEAST_ROOM: usize = 96;
@@ -107,7 +107,7 @@ fn give_verdict(c: Condition, out: &mut [u8]) -> Replied
 
 // Show replies with the form inside it; 16 where fewer than 2,100 bytes are lent.
 fn show_form(line: &[u8], out: &mut [u8]) -> Replied
-    requires is_show { (request_of (tokens line.now)).kind ≡ ShowLine }
+    requires is_show { request_of (tokens line.now) ≡ Some ShowLine }
     requires room { (length line.now ≤ 2000) × (96 ≤ length out.old) }
     ensures { Replies (show_code (length out.old)) (show_answer (tokens line.now) (length out.old)) 0 result out.old out.new }
 {
@@ -124,31 +124,27 @@ fn show_form(line: &[u8], out: &mut [u8]) -> Replied
 
 // The reply to the request of a line.
 fn reply_to(c: Condition, line: &[u8], r: Request, out: &mut [u8]) -> Replied
-    requires asked { r ≡ carried_request (request_of (tokens line.now)) }
+    requires asked { option_map carried_request (request_of (tokens line.now)) ≡ Some r }
     requires room { (length line.now ≤ 2000) × (96 ≤ length out.old) }
     ensures { Replies (outcome_of c (tokens line.now) (length out.old) r).code (outcome_of c (tokens line.now) (length out.old) r).reply (moment_found r) result out.old out.new }
 {
-    let kind = r.kind;
-    let h = r.hold;
-    let k = r.column;
     let sums = c.sums;
-    match kind {
-        Kind::ShipLine(s) => answer_with(operations::ship_code(s), out),
-        Kind::ColumnLine => answer_with(operations::column_code(c, k), out),
-        Kind::LoadLine(l) => answer_with(operations::load_code(l), out),
-        Kind::HoldLine(n) => answer_weighed(operations::hold_answer(n, h), out),
-        Kind::DropLine(n) => answer_with(operations::drop_code(c, n), out),
-        Kind::JudgeLine => give_verdict(c, out),
-        Kind::ClearLine => answer_with(0, out),
-        Kind::ShowLine => show_form(line, out),
-        Kind::TotalLine => show_total(c.total, out),
-        Kind::WeighingLine(w) => answer_with(operations::weighing_code(sums, w), out),
-        Kind::NoShape => answer_with(14, out),
+    match r {
+        Request::ShipLine(s) => answer_with(operations::ship_code(s), out),
+        Request::ColumnLine(k) => answer_with(operations::column_code(c, k), out),
+        Request::LoadLine(l) => answer_with(operations::load_code(l), out),
+        Request::HoldLine(n, h) => answer_weighed(operations::hold_answer(n, h), out),
+        Request::DropLine(n) => answer_with(operations::drop_code(c, n), out),
+        Request::JudgeLine => give_verdict(c, out),
+        Request::ClearLine => answer_with(0, out),
+        Request::ShowLine => show_form(line, out),
+        Request::TotalLine => show_total(c.total, out),
+        Request::WeighingLine(w) => answer_with(operations::weighing_code(sums, w), out),
     }
 }
 
 // The reply to a line and what was heard of it, at the front of the lent buffer.
-pub fn answer(c: Condition, line: &[u8], h: Heard, out: &mut [u8]) -> Replied
+pub fn answer(c: Condition, line: &[u8], h: Result<Request, Fault>, out: &mut [u8]) -> Replied
     requires { h ≡ heard_of line.now }
     ensures { Replies (step_of c line.now (length out.old)).code (step_of c line.now (length out.old)).reply (handed_on h (length out.old)) result out.old out.new }
 {
@@ -159,12 +155,10 @@ pub fn answer(c: Condition, line: &[u8], h: Heard, out: &mut [u8]) -> Replied
             moment: 0,
         };
     }
-    let found = h.code;
-    if found != 0 {
-        return answer_with(found, out);
+    match h {
+        Ok(request) => reply_to(c, line, request, out),
+        Err(fault) => answer_with(line_codes::fault_code(fault), out),
     }
-    let request = h.request;
-    reply_to(c, line, request, out)
 }
 
 // ---- the step
@@ -177,6 +171,13 @@ pub fn step(c: Condition, line: &[u8], out: &mut [u8]) -> Stepped
     let a = answer(c, line, h, out);
     let code = a.code;
     let len = a.len;
+    let Ok(request) = h else {
+        return Stepped {
+            code,
+            len,
+            after: c,
+        };
+    };
     if code != 0 {
         return Stepped {
             code,
@@ -184,7 +185,6 @@ pub fn step(c: Condition, line: &[u8], out: &mut [u8]) -> Stepped
             after: c,
         };
     }
-    let request = h.request;
     let after = effects::effect(c, request, a.moment);
     Stepped { code, len, after }
 }

@@ -3,7 +3,7 @@ use mathlib.Core.Path.{refl, sym, ◌∙◌}
 use Prim.Native.Nat.{◌≤◌}
 use lib.ListN.{length}
 use Rattle.reply.specs.Written.{over}
-use Rattle.panel.proofs.Answers.{handed_room, handed_none, handed_refused, step_none, step_refused, step_request, heard_asks, heard_short}
+use Rattle.panel.proofs.Answers.{handed_room, handed_none, step_none, step_refused, step_request, heard_asks, heard_short}
 use borrow.Author.Rules.{rules}
 use Rattle.panel.proofs.answer.Goals as goal
 
@@ -13,19 +13,19 @@ returns-then-out-lt-LEAST_ROOM c =
     let k = c.args in
     rw (step_none k.c k.line.now (length k.out.now) (search rules)) (record { coded = refl; long = refl; moment = sym (handed_none k.h (length k.out.now) (search rules)); written = refl })
 
-pub returns-then-found-ne0 : goal.returns-then-found-ne0
-returns-then-found-ne0 c =
-    let a = c.answer_with.ensures in
-    rw (step_refused c.args.c c.args.line.now (length c.args.out.now) c.args.h c.requires (search rules) c.if-found-ne0.true)
-    (record { coded = a.coded; long = a.long; moment = a.moment ∙ sym (handed_refused c.args.line.now c.args.h c.requires c.if-found-ne0.true (length c.args.out.now)); written = a.written })
-
 pub reply_to-requires : goal.reply_to-requires
 reply_to-requires c =
     let line = c.args.line.now in
-    record { asked = heard_asks line c.args.h c.requires c.if-found-ne0.false; room = (heard_short line c.args.h c.requires c.if-found-ne0.false, search rules) }
+    let heard = sym c.in-Ok.is ∙ c.requires in
+    record { asked = heard_asks line c.in-Ok.request heard; room = (heard_short line c.in-Ok.request heard, search rules) }
 
-pub returns : goal.returns
-returns c =
+pub returns-in-Ok : goal.returns-in-Ok
+returns-in-Ok c =
     let room : 96 ≤ length c.args.out.now = search rules in
-    rw (step_request c.args.c c.args.line.now (length c.args.out.now) c.args.h c.requires room c.if-found-ne0.false, handed_room c.args.h (length c.args.out.now) room)
+    rw (step_request c.args.c c.args.line.now (length c.args.out.now) c.in-Ok.request (sym c.in-Ok.is ∙ c.requires) room, c.in-Ok.is, handed_room c.in-Ok.request (length c.args.out.now) room)
     c.reply_to.ensures
+
+pub returns-in-Err : goal.returns-in-Err
+returns-in-Err c =
+    rw (step_refused c.args.c c.args.line.now (length c.args.out.now) c.in-Err.fault (sym c.in-Err.is ∙ c.requires) (search rules), c.in-Err.is, ← c.fault_code.ensures)
+    c.answer_with.ensures

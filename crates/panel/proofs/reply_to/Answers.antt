@@ -25,7 +25,7 @@ unfolding outcome_of
 returns-in-HoldLine c =
     let args = c.args in
     let a = rw c.hold_answer.ensures at c.answer_weighed.ensures in
-    rw (c.in-HoldLine.is, ← hold_answered c.in-HoldLine.n args.r.hold args.c) a
+    rw (c.in-HoldLine.is, ← hold_answered c.in-HoldLine.n c.in-HoldLine.h args.c) a
 
 pub returns-in-DropLine : goal.returns-in-DropLine
 unfolding outcome_of
@@ -58,7 +58,3 @@ unfolding outcome_of
 returns-in-WeighingLine c =
     let code = c.weighing_code.ensures c.args.c refl in
     rw (c.in-WeighingLine.is, ← code) c.answer_with-in-WeighingLine.ensures
-
-pub returns-in-NoShape : goal.returns-in-NoShape
-unfolding outcome_of
-returns-in-NoShape c = rw c.in-NoShape.is c.answer_with-in-NoShape.ensures
