@@ -12,7 +12,8 @@ ghost use Rattle.arms.specs.Walk.{left_over, left_overs, ReachOf, Small, Bounded
 
 use record::{Column, Load};
 
-// What the arms are read from: the two columns around the displacement, the load, and the total weight moment W in kg·m.
+// What the arms are read from: the two columns around the displacement, the load, and the total weight moment W in kg·m. That they are
+// within their limits is no field of it: judge's definition makes a basis of any condition's records.
 #[derive(Clone, Copy)]
 pub struct Basis {
     pub low: Column,
@@ -130,6 +131,7 @@ fn heeling_at(b: Basis, k: usize) -> u64
     whole::divide_up(moment, 20000 * b.load.d as u64)
 }
 
+// The arms at each of the ten angles are filled in by loops: of `array::from_fn` it was not proved that each entry is the closure's.
 fn righting_arms(b: Basis) -> [i64; 10]
     requires { Judgeable b }
     ensures { result ≡ righting_arms b }

@@ -46,7 +46,7 @@ fn cells_within(p: Part) -> bool
         .all(|c| cell_limits(*c))
 }
 
-// The widths of the first `count` cells together.
+// The widths of the first `count` cells together: by a loop, since it was not proved of `sum` that 32 bits hold them.
 fn width_together(p: Part) -> u32
     requires { p.count ≤ 8 }
     ensures { result ≡ sum_by cell_width (cells_of p) }
