@@ -3,7 +3,7 @@
 -- cells/specs/Figures.antt, slack/specs/Exact.antt, grain/specs/Figures.antt, stability/specs/Demand.antt, reply/specs/Shown.antt,
 -- judging/specs/Codes.antt, operations/specs/Codes.antt, storing/specs/Stores.antt, spelling/specs/SoSpelled.antt, weights/specs/Items.antt, sending/specs/Laws.antt;
 -- the codes of a line in Codes.antt, show in Show.antt, total in Total.antt, weight items in Items.antt, the worked runs in Runs.antt.
-use Rattle.std.specs.Prelude.{◌≡◌, true, List, [], ◌∷◌, ◌++◌, ◌↔◌, ℕ, ◌+◌, ◌-◌, ◌≤◌, ◌<◌, length, get_or}
+use Rattle.std.specs.Prelude.{◌≡◌, true, List, [], ◌∷◌, ◌++◌, ◌↔◌, ℕ, ◌+◌, ◌-◌, ◌≤◌, ◌<◌, length, get_or, Some}
 use Rattle.whole.specs.Lists.{is_one_of}
 use Rattle.record.specs.declared.Ship.{Ship}
 use Rattle.record.specs.declared.Load.{Load}
@@ -17,7 +17,6 @@ use Rattle.stability.specs.Verdict.{judgement_code, verdict_of}
 use Rattle.arms.specs.Exact.{EveryAngle}
 use Rattle.stability.specs.Demand.{Demand3}
 use Rattle.stability.specs.Margins.{Margins}
-use Rattle.text.specs.declared.Number.TheVariants.{Is}
 use Rattle.text.specs.Token.{number_of}
 use Rattle.line_codes.specs.Codes.{LetterOrDigit, NumberIs}
 use Rattle.forms.specs.declared.Kind.TheVariants.{ShipLine, ColumnLine, LoadLine, HoldLine, DropLine, JudgeLine, ClearLine, ShowLine, TotalLine, WeighingLine}
@@ -113,7 +112,7 @@ ClearStartsAnew =
 
 -- the number that is read of a run is the one whose digits it has
 abbrev pub NumbersAreRead : Type 0
-NumbersAreRead = (r : List ℕ) (n : ℕ) → (number_of r ≡ Is n) ↔ NumberIs n r
+NumbersAreRead = (r : List ℕ) (n : ℕ) → (number_of r ≡ Some n) ↔ NumberIs n r
 
 -- spaces are free: a column, or any record, means the same whoever typed it. A space more, anywhere but between two letters or digits,
 -- changes no outcome of a line that stays within 2,000 bytes

@@ -28,7 +28,7 @@ use Rattle.text.specs.Token.{Token, opened, closed, same}
 use Rattle.items.specs.Grammar.{Parsed, got, none, open?, close?, run?, head?, named, number?, numbers?, last_numbers?, items?, several?}
 use Rattle.items.proofs.Yields.{Each, Several}
 use Rattle.parts.specs.Shape.{section_record, cell?, section?, slack?, body?, part?}
-use Rattle.forms.specs.declared.ModeNamed.TheVariants.{As}
+use Rattle.std.specs.Prelude.{Some}
 use Rattle.forms.specs.declared.Kind.TheVariants.{ShipLine, LoadLine, WeighingLine}
 use Rattle.forms.specs.Shape.{plain, column_request, hold_request, ship?, column?, load?, mode_named, parts?, hold?}
 use Rattle.request.specs.Shape.{weight?, line?}
@@ -130,7 +130,7 @@ print_part m p g =
     record { fine = fine_form "part" refl refl b.0; reads = λ us. rw (append_assoc (part_items m p) (closed ∷ []) us, b.1 us); opens = λ us. refl }
 
 -- ---- a hold
-mode_named_lem : (m : Mode) → mode_named (bytes (mode_word m)) ≡ As m
+mode_named_lem : (m : Mode) → mode_named (bytes (mode_word m)) ≡ Some m
 unfolding named same
 mode_named_lem Trimmed = refl
 mode_named_lem Voided = refl

@@ -1,8 +1,7 @@
 -- The laws of lines that are answered alike, and of the records of a condition, printed and sent. Proved in proofs/: Alike, Decimals and
 -- Sending.
-use Rattle.std.specs.Prelude.{◌≡◌, true, List, ℕ, ◌≤◌, eqb}
+use Rattle.std.specs.Prelude.{◌≡◌, true, List, ℕ, ◌≤◌, eqb, Some}
 use Rattle.whole.specs.Lists.{all}
-use Rattle.text.specs.declared.Number.TheVariants.{Is}
 use Rattle.text.specs.Token.{run, tokens, number_of}
 use Rattle.line_codes.specs.Alike.{AllowedLine}
 use Rattle.reply.specs.Written.{decimal}
@@ -23,7 +22,7 @@ abbrev pub DecimalIsARun : Type 0
 DecimalIsARun = (n : ℕ) → n ≤ 999999999 → proper (run (decimal n)) ≡ true
 
 abbrev pub DecimalIsReadBack : Type 0
-DecimalIsReadBack = (n : ℕ) → n ≤ 999999999 → number_of (decimal n) ≡ Is n
+DecimalIsReadBack = (n : ℕ) → n ≤ 999999999 → number_of (decimal n) ≡ Some n
 
 -- a condition within its limits, as document 01 says it of lines: its records, the columns in their order, sent to a cleared panel, are all
 -- taken with 00. The panel then has the same records
