@@ -19,10 +19,10 @@ new: deepest ts = cond (is_show ts) 6 4
 
 DIST_AND_GIRDER = """
 file: crates/parts/src/lib.rt
-old:             dist: v[1],
-new:             dist: v[2],
-old:             girder: v[2],
-new:             girder: v[1],
+old:                 dist,
+new:                 dist: girder,
+old:                 girder,
+new:                 girder: dist,
 file: crates/parts/specs/Shape.antt
 old: Wing (nth v 0) (nth v 1) (nth v 2) (nth v 3)
 new: Wing (nth v 0) (nth v 2) (nth v 1) (nth v 3)
@@ -30,10 +30,10 @@ new: Wing (nth v 0) (nth v 2) (nth v 1) (nth v 3)
 
 VOID_AND_GRAIN = """
 file: crates/parts/src/lib.rt
-old:         void: v[2],
-new:         void: v[3],
-old:         grain: v[3],
-new:         grain: v[2],
+old:         void,
+new:         void: grain,
+old:         grain,
+new:         grain: void,
 file: crates/parts/specs/Shape.antt
 old: void = nth v 2; grain = nth v 3
 new: void = nth v 3; grain = nth v 2
@@ -44,14 +44,12 @@ new: void = carried (nth v 3); grain = carried (nth v 2)
 
 KG_AND_FS = """
 file: crates/forms/src/lib.rt
-old:         kg: v[0],
-new:         kg: v[1],
-old:         fs: v[1],
-new:         fs: v[0],
+old: Load { d, kg, fs }
+new: Load { d, kg: fs, fs: kg }
 file: crates/forms/specs/Shape.antt
 old: kg = nth v 0; fs = nth v 1
 new: kg = nth v 1; fs = nth v 0
-file: crates/forms/proofs/load_at/Answers.antt
+file: crates/forms/proofs/load/Answers.antt
 old: kg = nth x 0; fs = nth x 1
 new: kg = nth x 1; fs = nth x 0
 file: crates/showing/proofs/Framing.antt
@@ -61,15 +59,15 @@ new: kg = nth v 1; fs = nth v 0
 
 NEW_AND_OLD = """
 file: crates/forms/src/lib.rt
-old: text::same(word, b"new")
-new: text::same(word, b"other")
-old: text::same(word, b"old")
-new: text::same(word, b"new")
-old: text::same(word, b"other")
-new: text::same(word, b"old")
+old: word == b"new"
+new: word == b"other"
+old: word == b"old"
+new: word == b"new"
+old: word == b"other"
+new: word == b"old"
 file: crates/forms/specs/Shape.antt
-old: ("new", Under NewWord) ∷ ("old", Under OldWord)
-new: ("old", Under NewWord) ∷ ("new", Under OldWord)
+old: ("new", Some NewWord) ∷ ("old", Some OldWord)
+new: ("old", Some NewWord) ∷ ("new", Some OldWord)
 """
 
 ROOM_128 = """
