@@ -4,11 +4,12 @@
 ghost use Rattle.std.specs.Prelude.{◌≡◌, ◌+◌, ◌≤◌, ◌<◌, length, take};
 ghost use Rattle.hearing.specs.Hearing.{heard_of};
 ghost use Rattle.panel.specs.Step.{step_of};
-ghost use Rattle.panel.specs.Handed.{moment_found};
+ghost use Rattle.panel.specs.Handed.{handed_on};
 ghost use Rattle.lines.specs.Taking.{FromBlock, RepliedBehind, BegunTaken, Room, FirstMoved, BlockMoved};
 
 use condition::Condition;
-use hearing::Heard;
+use forms::Request;
+use line_codes::Fault;
 use panel::Replied;
 
 // With more bytes of replies than these waiting, fewer than the 2,100 that a show needs are left of the 65,536.
@@ -43,10 +44,16 @@ fn behind(block: &[u8], at: usize) -> usize
 }
 
 // One line and what was heard of it: its reply goes behind those that wait.
-fn answer_line(c: Condition, line: &[u8], h: Heard, out: &mut [u8], filled: usize) -> Replied
+fn answer_line(
+    c: Condition,
+    line: &[u8],
+    h: Result<Request, Fault>,
+    out: &mut [u8],
+    filled: usize,
+) -> Replied
     requires heard { h ≡ heard_of line.now }
     requires room { (filled + 2100 ≤ 65536) × (length out.old ≡ 65536) }
-    ensures { RepliedBehind (step_of c line.now 2100) (moment_found h.request) result filled out.old out.new }
+    ensures { RepliedBehind (step_of c line.now 2100) (handed_on h 2100) result filled out.old out.new }
 {
     panel::answer(c, line, h, &mut out[filled..])
 }
@@ -76,9 +83,10 @@ fn take_lines(f: Feed, block: &[u8], at: usize, out: &mut [u8]) -> Taken
         filled += long;
         left -= 1;
         i = behind(block, e);
-        if r.code == 0 {
-            let q = h.request;
-            c = effects::effect(c, q, r.moment);
+        if let Ok(request) = h {
+            if r.code == 0 {
+                c = effects::effect(c, request, r.moment);
+            }
         }
     }
     stopped(c, left, used, filled, i)

@@ -8,17 +8,18 @@ use input::Told;
 use lines::Feed;
 use std::io::{ErrorKind, Read, Stdin, Stdout, Write};
 
+// How often a read or a write is made before it counts as one that fails.
+const TRIES: u32 = 1000000;
+
 // Writes all of a slice; an interrupted write is repeated. Whether all was written.
 fn write_out(output: &mut Stdout, bytes: &[u8]) -> bool {
-    let mut done = 0;
-    let mut tries: u64 = 1000000;
-    while 0 < tries {
-        if bytes.len() <= done {
+    let mut left = bytes;
+    for _ in 0..TRIES {
+        if left.is_empty() {
             return true;
         }
-        tries -= 1;
-        match output.write(&bytes[done..]) {
-            Ok(n) => done += n,
+        match output.write(left) {
+            Ok(n) => left = &left[n..],
             Err(e) => {
                 if e.kind() != ErrorKind::Interrupted {
                     return false;
@@ -35,8 +36,7 @@ fn fetch(input: &mut Stdin, block: &mut [u8], most: usize) -> usize
     requires { most ≤ length block.old }
     ensures { result ≤ most }
 {
-    let mut tries: u64 = 1000000;
-    while 0 < tries {
+    for _ in 0..TRIES {
         match input.read(&mut block[..most]) {
             Ok(n) => return n,
             Err(e) => {
@@ -45,7 +45,6 @@ fn fetch(input: &mut Stdin, block: &mut [u8], most: usize) -> usize
                 }
             }
         }
-        tries -= 1;
     }
     0
 }

@@ -5,7 +5,7 @@ use native.Mathlib.Omega.{arith}
 use lib.ListN.{length, take, drop, length-drop}
 use lib.Seq.{length-take-le}
 use Rattle.reply.proofs.Writing.{over_fits}
-use Rattle.panel.proofs.Answers.{handed_room}
+use Rattle.panel.proofs.Answers.{handed_any}
 use Rattle.panel.proofs.Room.{any_room}
 use Rattle.lines.proofs.Taking.{reply_waits}
 use Rattle.lines.proofs.answer_line.Goals as goal
@@ -26,7 +26,7 @@ returns c =
     rw (← a)
     (record {
       coded = e.coded;
-      moment = e.moment ∙ handed_room args.h (length part) (omega arith);
+      moment = e.moment ∙ handed_any args.h (length part) r;
       room = omega (arith, e.long, w, m, pre);
       waits = rw e.written (reply_waits l part _ _ n _ (omega (arith, pre)) e.long);
     })

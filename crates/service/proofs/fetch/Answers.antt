@@ -4,5 +4,5 @@ use native.Mathlib.Omega.{arith}
 use lib.Seq.{length-take-le}
 use Rattle.service.proofs.fetch.Goals as goal
 
-pub slice_bounds-read-end-in-loop-tries : goal.slice_bounds-read-end-in-loop-tries
-slice_bounds-read-end-in-loop-tries c = sym (length-take-le _ _ (omega arith))
+pub slice_bounds-read-end-in-loop : goal.slice_bounds-read-end-in-loop
+slice_bounds-read-end-in-loop c = sym (length-take-le _ _ (omega arith))

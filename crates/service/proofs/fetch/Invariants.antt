@@ -4,8 +4,5 @@ use Prim.Native.Nat.{◌≤◌}
 use lib.ListN.{length}
 use Rattle.service.proofs.fetch.Given as goal
 
-abbrev pub invariant-loop-tries : goal.invariant-loop-tries
-invariant-loop-tries l = (length l.block ≡ length l.initial.block) × (l.most ≤ length l.initial.block)
-
-abbrev pub decreases-loop-tries : goal.decreases-loop-tries
-decreases-loop-tries l = l.tries
+abbrev pub invariant-loop : goal.invariant-loop
+invariant-loop l = (length l.block ≡ length l.initial.block) × (l.most ≤ length l.initial.block)
