@@ -3,9 +3,8 @@ use mathlib.Core.Path.{◌≡◌, refl}
 use mathlib.Core.List.{List}
 use Prim.Native.Nat.{ℕ}
 use Rattle.text.specs.Token.{tokens}
-use Rattle.line_codes.specs.declared.Reading.{Reading}
-use Rattle.line_codes.specs.declared.Reading.TheVariants.{Sound, TooLong, BadByte, NotOneForm, BadNumber}
-use Rattle.line_codes.specs.Line.{reading_of}
+use Rattle.std.specs.Prelude.{Ok, Err}
+use Rattle.line_codes.specs.Line.{Reading, reading_of}
 use Rattle.line_codes.proofs.Alike.{reading_alike}
 use Rattle.condition.specs.declared.Condition.{Condition}
 use Rattle.panel.specs.Step.{outcome_after, step_of}
@@ -13,11 +12,8 @@ use Rattle.sending.specs.Laws.{SameTokensAnsweredAlike}
 
 module _ (a b : List ℕ) (same : tokens a ≡ tokens b) (c : Condition) (lent : ℕ) where
   outcome_alike : (r : Reading) → outcome_after c a lent r ≡ outcome_after c b lent r
-  outcome_alike Sound = rw same
-  outcome_alike TooLong = refl
-  outcome_alike BadByte = refl
-  outcome_alike NotOneForm = refl
-  outcome_alike BadNumber = refl
+  outcome_alike (Ok u) = rw same
+  outcome_alike (Err f) = refl
 
   pub step_alike : reading_of a ≡ reading_of b → step_of c a lent ≡ step_of c b lent
   unfolding step_of

@@ -29,8 +29,8 @@ use Rattle.items.specs.Grammar.{Parsed, got, none, open?, close?, run?, head?, n
 use Rattle.items.proofs.Yields.{Each, Several}
 use Rattle.parts.specs.Shape.{section_record, cell?, section?, slack?, body?, part?}
 use Rattle.std.specs.Prelude.{Some}
-use Rattle.forms.specs.declared.Kind.TheVariants.{ShipLine, LoadLine, WeighingLine}
-use Rattle.forms.specs.Shape.{plain, column_request, hold_request, ship?, column?, load?, mode_named, parts?, hold?}
+use Rattle.forms.specs.declared.Request.TheVariants.{ShipLine, ColumnLine, LoadLine, HoldLine, WeighingLine}
+use Rattle.forms.specs.Shape.{ship?, column?, load?, mode_named, parts?, hold?}
 use Rattle.request.specs.Shape.{weight?, line?}
 use Rattle.sending.specs.Printed.{word, number, numbers, form, each_form, rule_word, ship_tokens, load_tokens, column_tokens, cell_tokens, section_items, part_items, part_tokens, mode_word, hold_tokens, item_tokens}
 use Rattle.sending.proofs.Decimals.{decimal_is_read_back}
@@ -142,7 +142,7 @@ fine_mode Trimmed f = fine_token (word "trimmed") refl refl f
 fine_mode Voided f = fine_more (omega arith) (fine_token (word "voided") refl refl f)
 fine_mode Partial f = fine_token (word "partial") refl refl f
 
-pub print_hold : (n : ℕ) (h : Hold) → GoodHold n h → Asks (hold_tokens n h) (hold_request n (refilled h))
+pub print_hold : (n : ℕ) (h : Hold) → GoodHold n h → Asks (hold_tokens n h) (HoldLine n (refilled h))
 unfolding line? hold? parts? head? open? run? named same all within
 print_hold n h g =
     let m = h.head.mode in
@@ -164,7 +164,7 @@ print_hold n h g =
     }
 
 -- ---- ship, load, column
-print_rule : (r : Rule) (flood : ℕ) → EdgeRange r → flood ≤ 9000 → Asks (form "ship" (word (rule_word r) ∷ numbers (edge r ∷ flood ∷ []))) (plain (ShipLine (record { rule = r; flood = flood })))
+print_rule : (r : Rule) (flood : ℕ) → EdgeRange r → flood ≤ 9000 → Asks (form "ship" (word (rule_word r) ∷ numbers (edge r ∷ flood ∷ []))) (ShipLine (record { rule = r; flood = flood }))
 unfolding line? ship? head? open? run? named same all within
 print_rule (New e) flood p q =
     let vs : List ℕ = e ∷ flood ∷ [] in
@@ -175,10 +175,10 @@ print_rule (Old e) flood p q =
     let s : Each Small vs = (omega arith, (omega arith, tt)) in
     record { reads = rw (read_last vs [] s); fine = fine_more (omega arith) (fine_form "ship" refl refl (fine_token (word "old") refl refl (fine_numbers vs s))) }
 
-pub print_ship : (s : Ship) → ShipRange s → Asks (ship_tokens s) (plain (ShipLine s))
+pub print_ship : (s : Ship) → ShipRange s → Asks (ship_tokens s) (ShipLine s)
 print_ship s r = print_rule s.rule s.flood r.0 r.2
 
-pub print_load : (l : Load) → LoadRange l → Asks (load_tokens l) (plain (LoadLine l))
+pub print_load : (l : Load) → LoadRange l → Asks (load_tokens l) (LoadLine l)
 unfolding line? load? head? open? run? named same all within
 print_load l r =
     let vs : List ℕ = l.kg ∷ l.fs ∷ [] in
@@ -189,7 +189,7 @@ print_load l r =
       fine = fine_more (omega arith) (fine_form "load" refl refl (fine_number l.d d (fine_numbers vs s)));
     }
 
-pub print_column : (k : Column) → ColumnRange k → length k.kn ≡ 10 → Asks (column_tokens k) (column_request k)
+pub print_column : (k : Column) → ColumnRange k → length k.kn ≡ 10 → Asks (column_tokens k) (ColumnLine k)
 unfolding line? column? head? open? run? close? named same all within
 print_column k r n =
     let s = each_from Small k.kn 0 (λ i h. omega (arith, r.5 i h)) in
@@ -205,7 +205,7 @@ print_column k r n =
     }
 
 -- ---- a weight item
-pub print_item : (i : WeightItem) → ItemRange i → Asks (item_tokens i) (plain (WeighingLine (Weight i)))
+pub print_item : (i : WeightItem) → ItemRange i → Asks (item_tokens i) (WeighingLine (Weight i))
 unfolding line? weight? head? open? run? named same all within
 print_item i r =
     let vs : List ℕ = i.height ∷ [] in
