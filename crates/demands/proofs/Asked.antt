@@ -7,38 +7,38 @@ use native.Mathlib.Omega.{arith}
 use lib.Dec.{ltb}
 use borrow.Author.Tests.{ltb-true, ltb-false, lt-ltb, le-ltb}
 use Rattle.whole.specs.Lists.{is_one_of}
-use Rattle.line_codes.specs.declared.Reading.{Reading}
-use Rattle.line_codes.specs.declared.Reading.TheVariants.{Sound, TooLong, BadByte, NotOneForm, BadNumber}
+use Rattle.std.specs.Prelude.{Option, Ok, Err}
+use Rattle.line_codes.specs.declared.Fault.TheVariants.{TooLong, BadByte, NotOneForm, BadNumber, NoShape}
 use Rattle.text.specs.Token.{tokens}
-use Rattle.line_codes.specs.Line.{reading_of, reading_code}
-use Rattle.line_codes.proofs.Codes.{line_code}
-use Rattle.forms.specs.declared.Kind.{Kind}
+use Rattle.line_codes.specs.Line.{Reading, reading_of, reading_code}
+use Rattle.line_codes.proofs.Codes.{line_code, passes}
+use Rattle.line_codes.proofs.Alike.{untested_shape}
+use Rattle.forms.specs.declared.Request.{Request}
 use Rattle.condition.specs.declared.Condition.{Condition}
-use Rattle.panel.specs.Step.{Outcome, outcome_by, outcome_of, outcome_after, step_of}
+use Rattle.panel.specs.Step.{Outcome, outcome_asked, outcome_after, step_of}
 use Rattle.demands.specs.Codes.{request, SoundLine, Asks}
-use Rattle.hearing.proofs.Hearing.{line_sound}
 
 -- a line to which none of 10 to 13 applies passes the tests of the whole line
-pub none_applies : (line : List ℕ) → reading_of line ≡ Sound → SoundLine line
+pub none_applies : (line : List ℕ) → reading_of line ≡ Ok tt → SoundLine line
 none_applies line e = (line_code line).sound.0 (ap reading_code e)
 
-pub passes_all : (line : List ℕ) → SoundLine line → reading_of line ≡ Sound
-passes_all line s = line_sound (reading_of line) ((line_code line).sound.1 s)
+pub passes_all : (line : List ℕ) → SoundLine line → reading_of line ≡ Ok tt
+passes_all line s = passes (reading_of line) ((line_code line).sound.1 s)
 
 -- the codes that are given before the request is looked at
 abbrev pub early : List ℕ
 early = 10 ∷ 11 ∷ 12 ∷ 13 ∷ 15 ∷ []
 
--- what a line asks for, were its form of this kind; and what it asks for
-abbrev pub asked_for : Condition → List ℕ → ℕ → Kind → Outcome
-asked_for c line lent k = outcome_by c (tokens line) lent k (request line).hold (request line).column
+-- what a line gets, were this its request; and what it gets
+abbrev pub asked_for : Condition → List ℕ → ℕ → Option Request → Outcome
+asked_for c line lent o = outcome_asked c (tokens line) lent o
 
 abbrev pub requested : Condition → List ℕ → ℕ → Outcome
-requested c line lent = asked_for c line lent (request line).kind
+requested c line lent = asked_for c line lent (request line)
 
 pub record Heard (c : Condition) (line : List ℕ) (lent : ℕ) : Type 0 where
   pub room : 96 ≤ lent
-  pub sound : reading_of line ≡ Sound
+  pub sound : reading_of line ≡ Ok tt
   pub outcome : step_of c line lent ≡ requested c line lent
 
 module _ (c : Condition) (line : List ℕ) (lent : ℕ) where
@@ -52,9 +52,8 @@ module _ (c : Condition) (line : List ℕ) (lent : ℕ) where
     unfolding step_of
     at_reading r e = rw (le-ltb lent 96 room, e)
 
-    pub hears : reading_of line ≡ Sound → Heard c line lent
-    unfolding outcome_of
-    hears e = record { room = room; sound = e; outcome = at_reading Sound e }
+    pub hears : reading_of line ≡ Ok tt → Heard c line lent
+    hears e = record { room = room; sound = e; outcome = at_reading (Ok tt) e }
 
   -- a line with any other code was heard
   module _ (n : ℕ) (coded : (step_of c line lent).code ≡ n) (late : is_one_of early n ≡ false) where
@@ -66,11 +65,12 @@ module _ (c : Condition) (line : List ℕ) (lent : ℕ) where
 
     by_reading : 96 ≤ lent → (r : Reading) → reading_of line ≡ r → Heard c line lent
     unfolding is_one_of
-    by_reading p Sound e = hears p e
-    by_reading p TooLong e = clash _ (at_reading p TooLong e) refl
-    by_reading p BadByte e = clash _ (at_reading p BadByte e) refl
-    by_reading p NotOneForm e = clash _ (at_reading p NotOneForm e) refl
-    by_reading p BadNumber e = clash _ (at_reading p BadNumber e) refl
+    by_reading p (Ok tt) e = hears p e
+    by_reading p (Err TooLong) e = clash _ (at_reading p (Err TooLong) e) refl
+    by_reading p (Err BadByte) e = clash _ (at_reading p (Err BadByte) e) refl
+    by_reading p (Err NotOneForm) e = clash _ (at_reading p (Err NotOneForm) e) refl
+    by_reading p (Err BadNumber) e = clash _ (at_reading p (Err BadNumber) e) refl
+    by_reading p (Err NoShape) e = absurd (untested_shape line e)
 
     by_room : (x : Bool) → ltb lent 96 ≡ x → Heard c line lent
     unfolding is_one_of
@@ -81,21 +81,21 @@ module _ (c : Condition) (line : List ℕ) (lent : ℕ) where
     heard = by_room (ltb lent 96) refl
 
   -- a line that was heard asks for what its request is, and has that outcome
-  pub asks : (k : Kind) → Heard c line lent → (request line).kind ≡ k → Asks line lent k
+  pub asks : (k : Option Request) → Heard c line lent → request line ≡ k → Asks line lent k
   asks k h e = record { room = h.room; sound = none_applies line h.sound; asked = e }
 
-  pub asked : (k : Kind) → Asks line lent k → step_of c line lent ≡ asked_for c line lent k
+  pub asked : (k : Option Request) → Asks line lent k → step_of c line lent ≡ asked_for c line lent k
   asked k a =
       (hears a.room (passes_all line a.sound)).outcome
       ∙ ap (asked_for c line lent) a.asked
 
-  pub code_of : (k : Kind) → Asks line lent k → (step_of c line lent).code ≡ (asked_for c line lent k).code
+  pub code_of : (k : Option Request) → Asks line lent k → (step_of c line lent).code ≡ (asked_for c line lent k).code
   code_of k a = ap (λ (o : Outcome). o.code) (asked k a)
 
   -- a line that is taken was heard, and has the outcome that it asks for
-  taken_asks : (k : Kind) → (request line).kind ≡ k → (step_of c line lent).code ≡ 0 → Asks line lent k
+  taken_asks : (k : Option Request) → request line ≡ k → (step_of c line lent).code ≡ 0 → Asks line lent k
   unfolding is_one_of
   taken_asks k e z = asks k (heard 0 z refl) e
 
-  pub taken_as : (k : Kind) → (request line).kind ≡ k → (step_of c line lent).code ≡ 0 → step_of c line lent ≡ asked_for c line lent k
+  pub taken_as : (k : Option Request) → request line ≡ k → (step_of c line lent).code ≡ 0 → step_of c line lent ≡ asked_for c line lent k
   taken_as k e z = asked k (taken_asks k e z)

@@ -4,10 +4,11 @@ use mathlib.Core.List.{List, [], ◌∷◌, ◌++◌}
 use Prim.Native.Nat.{ℕ}
 use Rattle.whole.specs.Lists.{all, is_one_of}
 use Rattle.whole.proofs.Lists.{among}
-use Rattle.forms.specs.declared.Kind.TheVariants.{ClearLine}
+use Rattle.forms.specs.declared.Request.TheVariants.{ClearLine}
 use Rattle.condition.specs.declared.Condition.{Condition}
 use Rattle.condition.specs.Condition.{empty}
-use Rattle.panel.specs.Step.{Outcome, step_of, Sent, condition_after, outcomes}
+use Rattle.std.specs.Prelude.{Some}
+use Rattle.panel.specs.Step.{Outcome, outcome_of, step_of, Sent, condition_after, outcomes}
 use Rattle.panel.proofs.Codes.{every, right}
 use Rattle.demands.specs.Codes.{request}
 use Rattle.demands.specs.Demands.{printed, CodesArePrinted, RefusalsChangeNothing, ClearStartsAnew}
@@ -21,8 +22,9 @@ pub refusals_change_nothing_lem : RefusalsChangeNothing
 refusals_change_nothing_lem c line lent = (right c line lent).unchanged
 
 -- ---- a clear that is taken
-cleared : (c : Condition) (line : List ℕ) (lent : ℕ) → (request line).kind ≡ ClearLine → (step_of c line lent).code ≡ 0 → (step_of c line lent).after ≡ empty
-cleared c line lent k e = ap (λ (o : Outcome). o.after) (taken_as c line lent ClearLine k e)
+cleared : (c : Condition) (line : List ℕ) (lent : ℕ) → request line ≡ Some ClearLine → (step_of c line lent).code ≡ 0 → (step_of c line lent).after ≡ empty
+unfolding outcome_of
+cleared c line lent k e = ap (λ (o : Outcome). o.after) (taken_as c line lent (Some ClearLine) k e)
 
 -- lines after lines
 outcomes_append : (c : Condition) (a b : List Sent) → outcomes c (a ++ b) ≡ outcomes c a ++ outcomes (condition_after c a) b

@@ -16,10 +16,10 @@ use Rattle.stability.specs.Verdict.{verdict_of}
 use Rattle.arms.specs.Judgeable.{Judgeable}
 use Rattle.columns.proofs.Standing.{around_at}
 use Rattle.stability.proofs.Demand3.{demand3, margins}
-use Rattle.forms.specs.declared.Kind.TheVariants.{JudgeLine}
+use Rattle.forms.specs.declared.Request.TheVariants.{JudgeLine}
 use Rattle.condition.specs.declared.Condition.{Condition}
 use Rattle.judging.specs.Judge.{basis_at, judged_at, judged_of}
-use Rattle.panel.specs.Step.{Outcome, verdict_given}
+use Rattle.panel.specs.Step.{Outcome, verdict_given, outcome_of}
 use Rattle.reply.proofs.Shown.{verdict_shown}
 use Rattle.stability.proofs.Shown.{sizes}
 use Rattle.judging.specs.Complete.{Complete}
@@ -57,12 +57,13 @@ module _ (c : Condition) (w : Within c) (m : Complete c) where
       ready_judged c (within_sound c w) m.ready ∙ ap (judged_at c) e ∙ rw (le-leb c.total 1000000000 (omega (arith, w.total, m.weights)))
 
 pub verdicts_hold_lem : VerdictsHold
+unfolding outcome_of
 verdicts_hold_lem c line lent w m a =
     let p = ready_around c (within_sound c w) m.ready in
     let b = basis_at c p.0 in
     let jd = judgeable c w m p.0 p.1 in
     let st = around_at c.load.d (held c.columns) p.0 (within_sound c w).columns p.1 in
-    let o = asked c line lent JudgeLine a ∙ ap (verdict_given c) (given c w m p.0 p.1) in
+    let o = asked c line lent (Some JudgeLine) a ∙ ap (verdict_given c) (given c w m p.0 p.1) in
     let z = sizes b jd c.ship in
     record {
       place = p.0;

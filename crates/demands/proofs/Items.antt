@@ -8,8 +8,6 @@ use lib.Dec.{eqb}
 use lib.ListN.{length, get_or}
 use borrow.Author.Tests.{eqb-true, eqb-false, leb-true}
 use Rattle.whole.specs.Lists.{sum_of}
-use Rattle.record.specs.declared.Column.{Column}
-use Rattle.record.specs.declared.Hold.{Hold}
 use Rattle.record.specs.declared.WeightItem.{WeightItem}
 use Rattle.record.specs.declared.Weighing.TheVariants.{Weight, Weighed, Unweigh}
 use Rattle.record.specs.Filler.{no_item, no_sums}
@@ -18,16 +16,17 @@ use Rattle.limits.proofs.Ranges.{item_range, rise_range}
 use Rattle.weights.specs.Weights.{has_room, with_item, weighed_load}
 use Rattle.weights.specs.Items.{sums_of, CanBeTaken}
 use Rattle.weights.proofs.Items.{taken_range, sums_of_items_lem, more_is, kg_of_sums, weighed_is_a_load}
+use Rattle.std.specs.Prelude.{Option, Some, None}
 use Rattle.text.specs.Token.{Token, tokens}
-use Rattle.forms.specs.declared.Kind.{Kind}
-use Rattle.forms.specs.declared.Kind.TheVariants.{ShipLine, ColumnLine, LoadLine, HoldLine, DropLine, JudgeLine, ClearLine, ShowLine, TotalLine, WeighingLine, NoShape}
+use Rattle.forms.specs.declared.Request.{Request}
+use Rattle.forms.specs.declared.Request.TheVariants.{ShipLine, ColumnLine, LoadLine, HoldLine, DropLine, JudgeLine, ClearLine, ShowLine, TotalLine, WeighingLine}
 use Rattle.showing.proofs.Own.{taken_as_weighing, weighing_only}
 use Rattle.condition.specs.declared.Condition.{Condition}
 use Rattle.condition.specs.Condition.{empty}
 use Rattle.judging.specs.Judge.{judged_of}
 use Rattle.operations.specs.Operations.{weighing_operation}
 use Rattle.operations.proofs.Effects.{ship_effect, load_effect, column_effect, hold_effect, drop_effect, weight_passed, weight_effect, weighed_passed, weighed_effect, unweigh_taken}
-use Rattle.panel.specs.Step.{Outcome, outcome_by, step_of, Sent, condition_after}
+use Rattle.panel.specs.Step.{Outcome, outcome_of, outcome_asked, step_of, Sent, condition_after}
 use Rattle.panel.proofs.Effects.{judge_same}
 use Rattle.demands.specs.Codes.{request}
 use Rattle.demands.specs.Items.{history, items_by, items_from, items_taken, SumsAreOfTheItems, ItemsCanBeTaken, WeighedMakesTheLoad, WeighedIsWithin, WeighingStandsAlone, WeighingWithOther}
@@ -71,28 +70,29 @@ module _ (c : Condition) (items : List WeightItem) (k : Keeps c items) where
       (record { sums = rw k.sums (more_sums i items inside k.taken room); taken = more_taken i items inside k.taken room })
 
   -- a line that is taken
-  kept_by : (ts : List Token) (lent : ℕ) (q : Kind) (h : Hold) (col : Column) → (outcome_by c ts lent q h col).code ≡ 0 → Keeps (outcome_by c ts lent q h col).after (items_by q items)
-  kept_by ts lent (ShipLine s) h col e = rw (← ship_effect c s e) (record { sums = k.sums; taken = k.taken })
-  kept_by ts lent ColumnLine h col e = rw (← column_effect c col e) (record { sums = k.sums; taken = k.taken })
-  kept_by ts lent (LoadLine l) h col e = rw (← load_effect c l e) (record { sums = k.sums; taken = k.taken })
-  kept_by ts lent (HoldLine n) h col e = rw (← hold_effect c n h e) (record { sums = k.sums; taken = k.taken })
-  kept_by ts lent (DropLine n) h col e = rw (← drop_effect c n e) (record { sums = k.sums; taken = k.taken })
-  kept_by ts lent JudgeLine h col e = rw (judge_same c (judged_of c)) k
-  kept_by ts lent ClearLine h col e = none_kept empty refl
-  kept_by ts lent ShowLine h col e = k
-  kept_by ts lent TotalLine h col e = k
-  kept_by ts lent (WeighingLine (Weight i)) h col e = weight_kept i e
-  kept_by ts lent (WeighingLine (Weighed fs)) h col e = rw (← weighed_effect c fs e) (record { sums = k.sums; taken = k.taken })
-  kept_by ts lent (WeighingLine Unweigh) h col e = rw (unweigh_taken c) (none_kept _ refl)
-  kept_by ts lent NoShape h col e = absurd (omega arith)
+  kept_by : (ts : List Token) (lent : ℕ) (o : Option Request) → (outcome_asked c ts lent o).code ≡ 0 → Keeps (outcome_asked c ts lent o).after (items_by o items)
+  unfolding outcome_of
+  kept_by ts lent (Some (ShipLine s)) e = rw (← ship_effect c s e) (record { sums = k.sums; taken = k.taken })
+  kept_by ts lent (Some (ColumnLine col)) e = rw (← column_effect c col e) (record { sums = k.sums; taken = k.taken })
+  kept_by ts lent (Some (LoadLine l)) e = rw (← load_effect c l e) (record { sums = k.sums; taken = k.taken })
+  kept_by ts lent (Some (HoldLine n h)) e = rw (← hold_effect c n h e) (record { sums = k.sums; taken = k.taken })
+  kept_by ts lent (Some (DropLine n)) e = rw (← drop_effect c n e) (record { sums = k.sums; taken = k.taken })
+  kept_by ts lent (Some JudgeLine) e = rw (judge_same c (judged_of c)) k
+  kept_by ts lent (Some ClearLine) e = none_kept empty refl
+  kept_by ts lent (Some ShowLine) e = k
+  kept_by ts lent (Some TotalLine) e = k
+  kept_by ts lent (Some (WeighingLine (Weight i))) e = weight_kept i e
+  kept_by ts lent (Some (WeighingLine (Weighed fs))) e = rw (← weighed_effect c fs e) (record { sums = k.sums; taken = k.taken })
+  kept_by ts lent (Some (WeighingLine Unweigh)) e = rw (unweigh_taken c) (none_kept _ refl)
+  kept_by ts lent None e = absurd (omega arith)
 
   -- any line, with its code
   module _ (line : List ℕ) (lent : ℕ) where
-    kept_step : (x : Bool) → eqb (step_of c line lent).code 0 ≡ x → Keeps (step_of c line lent).after (cond x (items_by (request line).kind items) items)
+    kept_step : (x : Bool) → eqb (step_of c line lent).code 0 ≡ x → Keeps (step_of c line lent).after (cond x (items_by (request line) items) items)
     kept_step true e =
         let zero = eqb-true (step_of c line lent).code 0 e in
-        let o = taken_as c line lent (request line).kind refl zero in
-        rw o (kept_by (tokens line) lent (request line).kind (request line).hold (request line).column (rw o at zero))
+        let o = taken_as c line lent (request line) refl zero in
+        rw o (kept_by (tokens line) lent (request line) (rw o at zero))
     kept_step false e = rw (refusals_change_nothing_lem c line lent (eqb-false (step_of c line lent).code 0 e)) k
 
 kept_after : (c : Condition) (items : List WeightItem) (ls : List Sent) → Keeps c items → Keeps (condition_after c ls) (items_from items (history c ls))
@@ -111,14 +111,16 @@ pub items_can_be_taken_lem : ItemsCanBeTaken
 items_can_be_taken_lem ls = (kept ls).taken
 
 -- ---- the load that a weighed line makes
-module _ (c : Condition) (line : List ℕ) (lent fs : ℕ) (asked : (request line).kind ≡ WeighingLine (Weighed fs)) (taken : (step_of c line lent).code ≡ 0) where
-  done : step_of c line lent ≡ outcome_by c (tokens line) lent (WeighingLine (Weighed fs)) (request line).hold (request line).column
-  done = taken_as c line lent (WeighingLine (Weighed fs)) asked taken
+module _ (c : Condition) (line : List ℕ) (lent fs : ℕ) (asked : request line ≡ Some (WeighingLine (Weighed fs))) (taken : (step_of c line lent).code ≡ 0) where
+  done : step_of c line lent ≡ outcome_of c (tokens line) lent (WeighingLine (Weighed fs))
+  done = taken_as c line lent (Some (WeighingLine (Weighed fs))) asked taken
 
   own : (weighing_operation c (Weighed fs)).code ≡ 0
+  unfolding outcome_of
   own = ap (λ (o : Outcome). o.code) (sym done) ∙ taken
 
   made : (step_of c line lent).after.load ≡ weighed_load c.sums fs
+  unfolding outcome_of
   made = ap (λ (o : Outcome). o.after.load) done ∙ ap (λ (d : Condition). d.load) (sym (weighed_effect c fs own))
 
   enough : 100 ≤ c.sums.tonnes
@@ -153,4 +155,4 @@ weighing_stands_alone_lem line lent w = (
 
 pub weighing_with_other_lem : WeighingWithOther
 weighing_with_other_lem c line lent word behind room sound o e more =
-    code_of c line lent NoShape (record { room = room; sound = sound; asked = rw e (weighing_only word behind o (rw e at more)) })
+    code_of c line lent None (record { room = room; sound = sound; asked = rw e (weighing_only word behind o (rw e at more)) })

@@ -18,7 +18,7 @@ use Rattle.record.specs.declared.Hold.{Hold}
 use Rattle.record.specs.declared.ItemSums.{ItemSums}
 use Rattle.record.specs.declared.Weighing.{Weighing}
 use Rattle.record.specs.declared.Weighing.TheVariants.{Weight, Weighed, Unweigh}
-use Rattle.std.specs.Prelude.{Ok}
+use Rattle.std.specs.Prelude.{Option, Some, None, Ok}
 use Rattle.record.specs.Filler.{no_column, no_part, no_hold, no_sums}
 use Rattle.limits.specs.Ranges.{ColumnRange}
 use Rattle.limits.proofs.Ranges.{ship_range, load_range, column_range, hold_range, place_range, item_range, rise_range}
@@ -33,9 +33,9 @@ use Rattle.limits.specs.Limits.{ship_limits, load_limits, place_limits}
 use Rattle.record.specs.Held.{held}
 use Rattle.columns.specs.Columns.{is_above, column_answer, with_column}
 use Rattle.text.specs.Token.{Token, tokens}
-use Rattle.forms.specs.declared.Kind.{Kind}
-use Rattle.forms.specs.declared.Kind.TheVariants.{ShipLine, ColumnLine, LoadLine, HoldLine, DropLine, JudgeLine, ClearLine, ShowLine, TotalLine, WeighingLine, NoShape}
-use Rattle.request.proofs.Lengths.{hold_places_lem, cell_places_lem, column_values}
+use Rattle.forms.specs.declared.Request.{Request}
+use Rattle.forms.specs.declared.Request.TheVariants.{ShipLine, ColumnLine, LoadLine, HoldLine, DropLine, JudgeLine, ClearLine, ShowLine, TotalLine, WeighingLine}
+use Rattle.request.proofs.Lengths.{SixPlaces, Sized, request_sized}
 use Rattle.condition.specs.declared.Condition.{Condition}
 use Rattle.condition.specs.Condition.{empty, is_held}
 use Rattle.total.specs.Total.{weight}
@@ -45,12 +45,12 @@ use Rattle.judging.specs.Judge.{judged_of}
 use Rattle.judging.specs.Complete.{Places}
 use Rattle.storing.specs.Storing.{with_hold, with_sums}
 use Rattle.operations.specs.Operations.{weighing_operation}
-use Rattle.panel.specs.Step.{outcome_by, step_of, Sent, condition_after}
+use Rattle.panel.specs.Step.{outcome_of, step_of, Sent, condition_after}
 use Rattle.sending.specs.Within.{Within, ColumnsTaken}
 use Rattle.demands.specs.Codes.{request}
 use Rattle.demands.specs.Demands.{StepsStayWithin, ReachedAreWithin, RangesAreWithin}
 use Rattle.storing.proofs.Taking.{place_within}
-use Rattle.demands.proofs.Asked.{taken_as}
+use Rattle.demands.proofs.Asked.{asked_for, taken_as}
 use Rattle.operations.proofs.Effects.{HoldPassed, ship_passed, ship_taken, load_passed, load_taken, column_passed, column_taken, hold_passed, hold_taken, drop_passed, drop_taken, weight_passed, weight_taken, weighed_passed, weighed_taken, unweigh_taken}
 use Rattle.storing.proofs.Columns.{Fitting, fitting_more, held_more, below_twenty}
 use Rattle.panel.proofs.Effects.{judge_same}
@@ -60,12 +60,8 @@ use Rattle.demands.proofs.Demand1.{refusals_change_nothing_lem}
 
 -- ---- what each record of a condition keeps: a ship or load that is there passed its tests; a hold that is there passed those of its
 -- place; the columns were each taken in their order; and arrays have their lengths
-record SizedHold (h : Hold) : Type 0 where
-  parts : length h.parts ≡ 6
-  cells : (i : ℕ) → i < 6 → (p : Part) → length (get_or h.parts i p).cells ≡ 8
-
 record GoodHold (n : ℕ) (h : Hold) : Type 0 where
-  sized : SizedHold h
+  sized : SixPlaces h
   passed : is_held h ≡ true → HoldPassed (n + 1) h
 
 record GoodHolds (hs : List Hold) : Type 0 where
@@ -178,18 +174,19 @@ module _ (c : Condition) (g : Good c) where
       rw (weighed_taken c fs p.0 p.1) (record { ship = g.ship; load = λ t. good; columns = g.columns; holds = g.holds; total = g.total; sums = g.sums })
   weighing_good Unweigh e = rw (unweigh_taken c) (with_sums_lem no_sums (omega arith, omega arith))
 
-  good_by : (ts : List Token) (lent : ℕ) (k : Kind) (h : Hold) (col : Column) → SizedHold h → length col.kn ≡ 10 → (outcome_by c ts lent k h col).code ≡ 0 → Good (outcome_by c ts lent k h col).after
-  good_by ts lent (ShipLine s) h col sh sc e =
+  good_by : (ts : List Token) (lent : ℕ) (r : Request) → Sized r → (outcome_of c ts lent r).code ≡ 0 → Good (outcome_of c ts lent r).after
+  unfolding outcome_of
+  good_by ts lent (ShipLine s) z e =
       let p = ship_passed c s e in
       rw (ship_taken c s p) (record { ship = λ t. p; load = g.load; columns = g.columns; holds = g.holds; total = g.total; sums = g.sums })
-  good_by ts lent ColumnLine h col sh sc e =
+  good_by ts lent (ColumnLine col) sc e =
       let p = column_passed c col e in
       rw (column_taken c col p)
       (record { ship = g.ship; load = g.load; columns = put_column c.columns col g.columns sc p; holds = g.holds; total = g.total; sums = g.sums })
-  good_by ts lent (LoadLine l) h col sh sc e =
+  good_by ts lent (LoadLine l) z e =
       let p = load_passed c l e in
       rw (load_taken c l p) (record { ship = g.ship; load = λ t. p; columns = g.columns; holds = g.holds; total = g.total; sums = g.sums })
-  good_by ts lent (HoldLine n) h col sh sc e =
+  good_by ts lent (HoldLine n h) sh e =
       let p = hold_passed c n h e in
       let same : n - 1 + 1 ≡ n = omega (arith, (place_within n p.place).0) in
       let new : GoodHold (n - 1) h = record { sized = sh; passed = λ t. rw same p } in
@@ -202,7 +199,7 @@ module _ (c : Condition) (g : Good c) where
         total = put_figure c n h g p.place (λ t. record { limits = p.limits; fits = p.fits });
         sums = g.sums;
       })
-  good_by ts lent (DropLine n) h col sh sc e =
+  good_by ts lent (DropLine n) z e =
       let p = drop_passed c n e in
       let figure = put_figure c n no_hold g p.0 (λ t. let z : ◌≡◌ {A = ℕ} 0 1 = cc in absurd (omega arith)) in
       rw (drop_taken c n p.0 p.1)
@@ -214,20 +211,22 @@ module _ (c : Condition) (g : Good c) where
         total = rw (nothing_weighs no_hold refl) at figure;
         sums = g.sums;
       })
-  good_by ts lent JudgeLine h col sh sc e = rw (judge_same c (judged_of c)) g
-  good_by ts lent ClearLine h col sh sc e = good_empty
-  good_by ts lent ShowLine h col sh sc e = g
-  good_by ts lent TotalLine h col sh sc e = g
-  good_by ts lent (WeighingLine w) h col sh sc e = weighing_good w e
-  good_by ts lent NoShape h col sh sc e = absurd (omega arith)
+  good_by ts lent JudgeLine z e = rw (judge_same c (judged_of c)) g
+  good_by ts lent ClearLine z e = good_empty
+  good_by ts lent ShowLine z e = g
+  good_by ts lent TotalLine z e = g
+  good_by ts lent (WeighingLine w) z e = weighing_good w e
 
   -- any line
   module _ (line : List ℕ) (lent : ℕ) where
     good_taken : (step_of c line lent).code ≡ 0 → Good (step_of c line lent).after
     good_taken e =
-        let o = taken_as c line lent (request line).kind refl e in
-        let s : SizedHold (request line).hold = record { parts = hold_places_lem (tokens line); cells = cell_places_lem (tokens line) } in
-        rw o (good_by (tokens line) lent (request line).kind (request line).hold (request line).column s (column_values (tokens line)) (rw o at e))
+        let o = taken_as c line lent (request line) refl e in
+        rw o (by (request line) refl (rw o at e))
+      where
+        by : (p : Option Request) → request line ≡ p → (asked_for c line lent p).code ≡ 0 → Good (asked_for c line lent p).after
+        by (Some r) q z = good_by (tokens line) lent r (request_sized (tokens line) r q) z
+        by None q z = absurd (omega arith)
 
     good_code : (x : Bool) → eqb (step_of c line lent).code 0 ≡ x → Good (step_of c line lent).after
     good_code true e = good_taken (eqb-true (step_of c line lent).code 0 e)

@@ -6,7 +6,7 @@ use native.Mathlib.Omega.{arith}
 use lib.ListN.{length}
 use borrow.Author.Tests.{le-ltb}
 use Rattle.text.specs.Token.{Token, tokens}
-use Rattle.line_codes.specs.declared.Reading.TheVariants.{Sound}
+use Rattle.std.specs.Prelude.{Some, Ok}
 use Rattle.line_codes.specs.Line.{reading_of}
 use Rattle.line_codes.specs.Alike.{AllowedLine}
 use Rattle.line_codes.proofs.Forms.{form_found}
@@ -14,12 +14,12 @@ use Rattle.line_codes.proofs.Alike.{sound_passes}
 use Rattle.spelling.specs.Spelling.{spell}
 use Rattle.spelling.proofs.Own.{own_spelling}
 use Rattle.spelling.proofs.Spelled.{spelled_so, spell_allowed}
-use Rattle.forms.specs.declared.Kind.TheVariants.{ShowLine}
+use Rattle.forms.specs.declared.Request.TheVariants.{ShowLine}
 use Rattle.showing.specs.Laws.{OfDocument01, ShowOf}
 use Rattle.showing.proofs.Forms.{form_line, asked_form, show_found, show_taken}
 use Rattle.showing.proofs.Laws.{inside_is_the_form, show_is_short, shape_deep, line_sound, form_proper, form_kept, form_numbers}
 use Rattle.condition.specs.declared.Condition.{Condition}
-use Rattle.panel.specs.Step.{Outcome, step_of}
+use Rattle.panel.specs.Step.{Outcome, outcome_of, step_of}
 use Rattle.sending.proofs.Alike.{same_tokens_answered_alike}
 use Rattle.demands.specs.Codes.{request, Asks}
 use Rattle.demands.specs.Show.{ShowsAForm, Shown, ShowsTheForm, ShapesAreFourDeep}
@@ -27,8 +27,8 @@ use Rattle.demands.proofs.Asked.{none_applies, passes_all, asked}
 use Rattle.demands.proofs.Around.{Inside, spaces_around, around_tokens, around_found}
 
 -- ---- a line that asks for show
-module _ (line : List ℕ) (lent : ℕ) (a : Asks line lent ShowLine) where
-  read : reading_of line ≡ Sound
+module _ (line : List ℕ) (lent : ℕ) (a : Asks line lent (Some ShowLine)) where
+  read : reading_of line ≡ Ok tt
   read = passes_all line a.sound
 
   found : (form : List Token) × ShowOf (tokens line) form
@@ -43,18 +43,19 @@ module _ (line : List ℕ) (lent : ℕ) (a : Asks line lent ShowLine) where
   inner_line : AllowedLine there.inner
   inner_line = record { long = omega (arith, there.shorter, (sound_passes line read).long); bytes = there.bytes }
 
-  inner_sound : reading_of there.inner ≡ Sound
+  inner_sound : reading_of there.inner ≡ Ok tt
   inner_sound =
       let f = asked_form form found.1.1 in
       line_sound there.inner form f.0 there.kept (form_line form f.0 [] f.1) inner_line (form_numbers line form found.1 read)
 
-  inner_asks : OfDocument01 (request there.inner).kind
+  inner_asks : OfDocument01 (request there.inner)
   inner_asks = rw there.kept found.1.1
 
   -- the outcome
   module _ (c : Condition) (room : 2100 ≤ lent) where
     shown_as : step_of c line lent ≡ record { code = 0; reply = spell form ++ 10 ∷ []; after = c }
-    shown_as = asked c line lent ShowLine a ∙ rw (le-ltb lent 2100 room, inside_is_the_form (tokens line) form found.1)
+    unfolding outcome_of
+    shown_as = asked c line lent (Some ShowLine) a ∙ rw (le-ltb lent 2100 room, inside_is_the_form (tokens line) form found.1)
 
     copies : length (spell form) ≤ 2000 → (d : Condition) (n : ℕ) → step_of d (spell form) n ≡ step_of d there.inner n
     copies p d n =
@@ -88,5 +89,5 @@ shows_a_form line lent = (
 )
 
 pub shapes_are_four_deep_lem : ShapesAreFourDeep
-shapes_are_four_deep_lem line lent kind a n =
+shapes_are_four_deep_lem line lent o a n =
     form_found 3 line (shape_deep line (sound_passes line (passes_all line a.sound)).bytes (λ e. n (sym a.asked ∙ e)))

@@ -14,7 +14,7 @@ use Rattle.grain.specs.Figures.{total}
 use Rattle.grain.specs.Sum.{weight_moment, total_weight}
 use Rattle.grain.proofs.Totals.{total_same, sum_total}
 use Rattle.grain.proofs.Weights.{hold_within}
-use Rattle.forms.specs.declared.Kind.TheVariants.{TotalLine, NoShape}
+use Rattle.forms.specs.declared.Request.TheVariants.{TotalLine}
 use Rattle.reply.specs.Shown.{TotalShown}
 use Rattle.reply.proofs.Shown.{total_shown_lem}
 use Rattle.condition.specs.declared.Condition.{Condition}
@@ -22,7 +22,8 @@ use Rattle.condition.specs.Condition.{empty, is_held}
 use Rattle.total.specs.Total.{weight}
 use Rattle.total.proofs.Figure.{total_le}
 use Rattle.showing.proofs.Own.{taken_as_total, total_only}
-use Rattle.panel.specs.Step.{Outcome, step_of, condition_after}
+use Rattle.std.specs.Prelude.{Some, None}
+use Rattle.panel.specs.Step.{Outcome, outcome_of, step_of, condition_after}
 use Rattle.sending.specs.Within.{Within}
 use Rattle.sending.specs.Sending.{SameRecords, record_forms, as_lines}
 use Rattle.sending.proofs.Weighing.{same_weight}
@@ -44,7 +45,7 @@ total_stands_alone_lem line lent = (
 
 pub total_with_items_lem : TotalWithItems
 total_with_items_lem c line lent behind room sound e more =
-    code_of c line lent NoShape (record { room = room; sound = sound; asked = rw e (total_only behind more) })
+    code_of c line lent None (record { room = room; sound = sound; asked = rw e (total_only behind more) })
 
 -- ---- the sum has fewer than twenty digits
 module _ (c : Condition) (w : Within c) where
@@ -53,9 +54,10 @@ module _ (c : Condition) (w : Within c) where
       omega (arith, total_le c.holds w.places.hold_places (λ i p e. let t = hold_sound c w i p e in record { limits = t.limits; fits = t.fits }))
 
 -- what is shown is the stored figure
-given : (c : Condition) (line : List ℕ) (lent : ℕ) → c.total < 100000000000000000000 → Asks line lent TotalLine → TotalGiven c c.total (step_of c line lent)
+given : (c : Condition) (line : List ℕ) (lent : ℕ) → c.total < 100000000000000000000 → Asks line lent (Some TotalLine) → TotalGiven c c.total (step_of c line lent)
+unfolding outcome_of
 given c line lent small a =
-    let o = asked c line lent TotalLine a in
+    let o = asked c line lent (Some TotalLine) a in
     record {
       code = ap (λ (o : Outcome). o.code) o;
       after = ap (λ (o : Outcome). o.after) o;

@@ -7,6 +7,8 @@ use Rattle.std.specs.Prelude.{◌≡◌, true, List, [], ◌∷◌, ◌++◌, �
 use Rattle.whole.specs.Lists.{is_one_of}
 use Rattle.record.specs.declared.Ship.{Ship}
 use Rattle.record.specs.declared.Load.{Load}
+use Rattle.record.specs.declared.Column.{Column}
+use Rattle.record.specs.declared.Hold.{Hold}
 use Rattle.record.specs.declared.WeightItem.{WeightItem}
 use Rattle.record.specs.declared.Weighing.TheVariants.{Weight, Weighed, Unweigh}
 use Rattle.record.specs.Held.{held}
@@ -19,7 +21,7 @@ use Rattle.stability.specs.Demand.{Demand3}
 use Rattle.stability.specs.Margins.{Margins}
 use Rattle.text.specs.Token.{number_of}
 use Rattle.line_codes.specs.Codes.{LetterOrDigit, NumberIs}
-use Rattle.forms.specs.declared.Kind.TheVariants.{ShipLine, ColumnLine, LoadLine, HoldLine, DropLine, JudgeLine, ClearLine, ShowLine, TotalLine, WeighingLine}
+use Rattle.forms.specs.declared.Request.TheVariants.{ShipLine, ColumnLine, LoadLine, HoldLine, DropLine, JudgeLine, ClearLine, ShowLine, TotalLine, WeighingLine}
 use Rattle.reply.specs.Written.{over}
 use Rattle.reply.specs.Shown.{AtFront, AnswerShown, RefusalShown, VerdictShown}
 use Rattle.condition.specs.declared.Condition.{Condition}
@@ -60,18 +62,18 @@ RefusalsChangeNothing =
 
 -- what a line that is taken leaves behind: its own record in its place, everything else as it was (storing/specs/Stores.antt)
 pub record Stores (c : Condition) (line : List ℕ) (after : Condition) : Type 0 where
-  pub ship : (s : Ship) → (request line).kind ≡ ShipLine s → ShipStored c s after
-  pub load : (l : Load) → (request line).kind ≡ LoadLine l → LoadStored c l after
-  pub column : (request line).kind ≡ ColumnLine → ColumnStored c (request line).column after
-  pub hold : (n : ℕ) → (request line).kind ≡ HoldLine n → HoldStored c n (request line).hold after
-  pub drop : (n : ℕ) → (request line).kind ≡ DropLine n → HoldDropped c n after
-  pub judge : (request line).kind ≡ JudgeLine → after ≡ c
-  pub clear : (request line).kind ≡ ClearLine → Nothing after
-  pub show : (request line).kind ≡ ShowLine → after ≡ c
-  pub total : (request line).kind ≡ TotalLine → after ≡ c
-  pub weight : (i : WeightItem) → (request line).kind ≡ WeighingLine (Weight i) → ItemStored c i after
-  pub weighed : (fs : ℕ) → (request line).kind ≡ WeighingLine (Weighed fs) → WeighedStored c fs after
-  pub unweigh : (request line).kind ≡ WeighingLine Unweigh → ItemsRemoved c after
+  pub ship : (s : Ship) → request line ≡ Some (ShipLine s) → ShipStored c s after
+  pub load : (l : Load) → request line ≡ Some (LoadLine l) → LoadStored c l after
+  pub column : (k : Column) → request line ≡ Some (ColumnLine k) → ColumnStored c k after
+  pub hold : (n : ℕ) (h : Hold) → request line ≡ Some (HoldLine n h) → HoldStored c n h after
+  pub drop : (n : ℕ) → request line ≡ Some (DropLine n) → HoldDropped c n after
+  pub judge : request line ≡ Some JudgeLine → after ≡ c
+  pub clear : request line ≡ Some ClearLine → Nothing after
+  pub show : request line ≡ Some ShowLine → after ≡ c
+  pub total : request line ≡ Some TotalLine → after ≡ c
+  pub weight : (i : WeightItem) → request line ≡ Some (WeighingLine (Weight i)) → ItemStored c i after
+  pub weighed : (fs : ℕ) → request line ≡ Some (WeighingLine (Weighed fs)) → WeighedStored c fs after
+  pub unweigh : request line ≡ Some (WeighingLine Unweigh) → ItemsRemoved c after
 
 abbrev pub RecordsAreStored : Type 0
 RecordsAreStored =
@@ -82,9 +84,9 @@ RecordsAreStored =
 -- Show.antt and Total.antt
 pub record Shows (line : List ℕ) (lent : ℕ) (o : Outcome) : Type 0 where
   pub short : lent < 96 → o.reply ≡ []
-  pub judge : Asks line lent JudgeLine → is_one_of (30 ∷ 31 ∷ 32 ∷ 33 ∷ 34 ∷ []) o.code ≡ true → RefusalShown o.code o.reply
+  pub judge : Asks line lent (Some JudgeLine) → is_one_of (30 ∷ 31 ∷ 32 ∷ 33 ∷ 34 ∷ []) o.code ≡ true → RefusalShown o.code o.reply
   pub other :
-      96 ≤ lent → (Asks line lent JudgeLine → ⊥) → (Asks line lent ShowLine → 2100 ≤ lent → ⊥) → (Asks line lent TotalLine → ⊥) →
+      96 ≤ lent → (Asks line lent (Some JudgeLine) → ⊥) → (Asks line lent (Some ShowLine) → 2100 ≤ lent → ⊥) → (Asks line lent (Some TotalLine) → ⊥) →
       AnswerShown o.code o.reply
 
 abbrev pub RepliesShowTheCode : Type 0
@@ -103,7 +105,7 @@ StartsEmpty = Nothing empty
 abbrev pub ClearStartsAnew : Type 0
 ClearStartsAnew =
     (c : Condition) (earlier : List Sent) (line : List ℕ) (lent : ℕ) (later : List Sent) →
-    (request line).kind ≡ ClearLine → (step_of (condition_after c earlier) line lent).code ≡ 0 →
+    request line ≡ Some ClearLine → (step_of (condition_after c earlier) line lent).code ≡ 0 →
     ((step_of (condition_after c earlier) line lent).after ≡ empty)
     × (outcomes c (earlier ++ record { line = line; lent = lent } ∷ later)
     ≡ outcomes c earlier ++ step_of (condition_after c earlier) line lent ∷ outcomes empty later)
@@ -159,7 +161,7 @@ pub record Judges (c : Condition) (o : Outcome) : Type 0 where
 -- for every condition that is within its limits and complete, however it came about
 abbrev pub VerdictsHold : Type 0
 VerdictsHold =
-    (c : Condition) (line : List ℕ) (lent : ℕ) → Within c → Complete c → Asks line lent JudgeLine → Judges c (step_of c line lent)
+    (c : Condition) (line : List ℕ) (lent : ℕ) → Within c → Complete c → Asks line lent (Some JudgeLine) → Judges c (step_of c line lent)
 
 -- every line leaves a condition that is within its limits so, and every condition that lines can reach is
 abbrev pub StepsStayWithin : Type 0

@@ -1,6 +1,6 @@
 -- Document 02, P5, in its own words: the sums are those of the items taken since the start or the last removal, as the history of lines tells it; the load
 -- that they make; which lines are those of weights.
-use Rattle.std.specs.Prelude.{◌≡◌, cond, List, [], ◌∷◌, ◌↔◌, ℕ, ◌≤◌, eqb}
+use Rattle.std.specs.Prelude.{◌≡◌, cond, List, [], ◌∷◌, ◌↔◌, ℕ, ◌≤◌, eqb, Option, Some, None}
 use Rattle.record.specs.declared.Load.{Load}
 use Rattle.record.specs.declared.WeightItem.{WeightItem}
 use Rattle.record.specs.declared.Weighing.{Weighing}
@@ -8,8 +8,8 @@ use Rattle.record.specs.declared.Weighing.TheVariants.{Weight, Weighed, Unweigh}
 use Rattle.limits.specs.Ranges.{LoadRange}
 use Rattle.weights.specs.Items.{sums_of, CanBeTaken, KgOf}
 use Rattle.text.specs.Token.{Token, opened, run, tokens}
-use Rattle.forms.specs.declared.Kind.{Kind}
-use Rattle.forms.specs.declared.Kind.TheVariants.{ShipLine, ColumnLine, LoadLine, HoldLine, DropLine, JudgeLine, ClearLine, ShowLine, TotalLine, WeighingLine, NoShape}
+use Rattle.forms.specs.declared.Request.{Request}
+use Rattle.forms.specs.declared.Request.TheVariants.{ShipLine, ColumnLine, LoadLine, HoldLine, DropLine, JudgeLine, ClearLine, ShowLine, TotalLine, WeighingLine}
 use Rattle.showing.specs.Laws.{WeighingOf, WeighingWord}
 use Rattle.condition.specs.declared.Condition.{Condition}
 use Rattle.condition.specs.Condition.{empty}
@@ -28,25 +28,25 @@ history c (l ∷ ls) =
     record { line = l.line; code = (step_of c l.line l.lent).code } ∷ history (step_of c l.line l.lent).after ls
 
 -- the items there are behind a line that was taken: weight brings one more, unweigh and clear remove all
-abbrev pub items_by : Kind → List WeightItem → List WeightItem
-items_by (WeighingLine (Weight i)) items = i ∷ items
-items_by (WeighingLine Unweigh) items = []
-items_by ClearLine items = []
-items_by (WeighingLine (Weighed fs)) items = items
-items_by (ShipLine s) items = items
-items_by ColumnLine items = items
-items_by (LoadLine l) items = items
-items_by (HoldLine n) items = items
-items_by (DropLine n) items = items
-items_by JudgeLine items = items
-items_by ShowLine items = items
-items_by TotalLine items = items
-items_by NoShape items = items
+abbrev pub items_by : Option Request → List WeightItem → List WeightItem
+items_by (Some (WeighingLine (Weight i))) items = i ∷ items
+items_by (Some (WeighingLine Unweigh)) items = []
+items_by (Some ClearLine) items = []
+items_by (Some (WeighingLine (Weighed fs))) items = items
+items_by (Some (ShipLine s)) items = items
+items_by (Some (ColumnLine k)) items = items
+items_by (Some (LoadLine l)) items = items
+items_by (Some (HoldLine n h)) items = items
+items_by (Some (DropLine n)) items = items
+items_by (Some JudgeLine) items = items
+items_by (Some ShowLine) items = items
+items_by (Some TotalLine) items = items
+items_by None items = items
 
 -- and behind the lines of a history, from these items on: one that was turned down brings and removes none
 unfoldable pub items_from : List WeightItem → List Coded → List WeightItem
 items_from items [] = items
-items_from items (t ∷ ts) = items_from (cond (eqb t.code 0) (items_by (request t.line).kind items) items) ts
+items_from items (t ∷ ts) = items_from (cond (eqb t.code 0) (items_by (request t.line) items) items) ts
 
 -- the items taken since the start or the last removal, once these lines were sent to a panel newly started
 abbrev pub items_taken : List Sent → List WeightItem
@@ -70,20 +70,20 @@ pub record LoadOf (items : List WeightItem) (fs : ℕ) (l : Load) : Type 0 where
 -- a weighed line that is taken makes it from the items taken, however many lines went before
 abbrev pub WeighedMakesTheLoad : Type 0
 WeighedMakesTheLoad =
-    (ls : List Sent) (line : List ℕ) (lent fs : ℕ) → (request line).kind ≡ WeighingLine (Weighed fs) → (step_of (condition_after empty ls) line lent).code ≡ 0 →
+    (ls : List Sent) (line : List ℕ) (lent fs : ℕ) → request line ≡ Some (WeighingLine (Weighed fs)) → (step_of (condition_after empty ls) line lent).code ≡ 0 →
     LoadOf (items_taken ls) fs (step_of (condition_after empty ls) line lent).after.load
 
 -- in every condition within its limits it makes one within the limits of a load
 abbrev pub WeighedIsWithin : Type 0
 WeighedIsWithin =
-    (c : Condition) (line : List ℕ) (lent fs : ℕ) → Within c → (request line).kind ≡ WeighingLine (Weighed fs) → (step_of c line lent).code ≡ 0 →
+    (c : Condition) (line : List ℕ) (lent fs : ℕ) → Within c → request line ≡ Some (WeighingLine (Weighed fs)) → (step_of c line lent).code ≡ 0 →
     LoadRange (step_of c line lent).after.load
 
 -- ---- a line to which none of 10 to 13 and 15 applies is one of weights exactly where it is `(weight T H)`, `(weighed FS)` or `(unweigh)`, whatever the
 -- spaces
 abbrev pub WeighingStandsAlone : Type 0
 WeighingStandsAlone =
-    (line : List ℕ) (lent : ℕ) (w : Weighing) → Asks line lent (WeighingLine w) ↔ ((96 ≤ lent) × SoundLine line × WeighingOf w (tokens line))
+    (line : List ℕ) (lent : ℕ) (w : Weighing) → Asks line lent (Some (WeighingLine w)) ↔ ((96 ≤ lent) × SoundLine line × WeighingOf w (tokens line))
 
 -- with anything else behind one of their words it is 14
 abbrev pub WeighingWithOther : Type 0

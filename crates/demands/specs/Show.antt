@@ -1,10 +1,10 @@
 -- Document 02, P2, in its own words: what show takes, what it replies, and that the reply can be sent again.
-use Rattle.std.specs.Prelude.{◌≡◌, List, [], ◌∷◌, ◌++◌, ◌↔◌, ℕ, ◌≤◌, length, replicate}
+use Rattle.std.specs.Prelude.{◌≡◌, List, [], ◌∷◌, ◌++◌, ◌↔◌, ℕ, ◌≤◌, length, replicate, Option, Some, None}
 use Rattle.text.specs.Token.{tokens}
 use Rattle.line_codes.specs.Codes.{OneForm, BeginsWithShow}
 use Rattle.spelling.specs.SoSpelled.{SoSpelled}
-use Rattle.forms.specs.declared.Kind.{Kind}
-use Rattle.forms.specs.declared.Kind.TheVariants.{ShowLine, NoShape}
+use Rattle.forms.specs.declared.Request.{Request}
+use Rattle.forms.specs.declared.Request.TheVariants.{ShowLine}
 use Rattle.showing.specs.Laws.{OfDocument01}
 use Rattle.condition.specs.declared.Condition.{Condition}
 use Rattle.panel.specs.Step.{Outcome, step_of}
@@ -21,11 +21,11 @@ pub record ShowAround (line inner : List ℕ) : Type 0 where
 abbrev pub ShowsAForm : Type 0
 ShowsAForm =
     (line : List ℕ) (lent : ℕ) →
-    Asks line lent ShowLine ↔ ((96 ≤ lent) × SoundLine line × ((inner : List ℕ) × ShowAround line inner × OfDocument01 (request inner).kind))
+    Asks line lent (Some ShowLine) ↔ ((96 ≤ lent) × SoundLine line × ((inner : List ℕ) × ShowAround line inner × OfDocument01 (request inner)))
 
 -- no line of a shape is five deep: five deep behind `show` turns 12 into 13 or 14, and takes no line
 abbrev pub ShapesAreFourDeep : Type 0
-ShapesAreFourDeep = (line : List ℕ) (lent : ℕ) (kind : Kind) → Asks line lent kind → (kind ≡ NoShape → ⊥) → OneForm 4 line
+ShapesAreFourDeep = (line : List ℕ) (lent : ℕ) (form : Option Request) → Asks line lent form → (form ≡ None → ⊥) → OneForm 4 line
 
 -- a show with room for its reply: 00, and nothing changed
 pub record Shown (c : Condition) (line : List ℕ) (o : Outcome) : Type 0 where
@@ -48,4 +48,4 @@ pub record Shown (c : Condition) (line : List ℕ) (o : Outcome) : Type 0 where
   pub copied : length spelled ≤ 2000 → (d : Condition) (lent : ℕ) → step_of d spelled lent ≡ step_of d inner lent
 
 abbrev pub ShowsTheForm : Type 0
-ShowsTheForm = (c : Condition) (line : List ℕ) (lent : ℕ) → Asks line lent ShowLine → 2100 ≤ lent → Shown c line (step_of c line lent)
+ShowsTheForm = (c : Condition) (line : List ℕ) (lent : ℕ) → Asks line lent (Some ShowLine) → 2100 ≤ lent → Shown c line (step_of c line lent)

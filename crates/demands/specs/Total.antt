@@ -1,9 +1,9 @@
 -- Document 02, P4, in its own words: the stored figure is the sum over the holds, and total shows it. `weight` is that sum; what it is, in
 -- the paper's numbers, `WeightIsTotal` says (Demands.antt).
-use Rattle.std.specs.Prelude.{◌≡◌, List, [], ◌∷◌, ◌↔◌, ℕ, ◌≤◌}
+use Rattle.std.specs.Prelude.{◌≡◌, List, [], ◌∷◌, ◌↔◌, ℕ, ◌≤◌, Some}
 use Rattle.whole.specs.Bytes.{bytes}
 use Rattle.text.specs.Token.{Token, opened, closed, run, tokens}
-use Rattle.forms.specs.declared.Kind.TheVariants.{TotalLine}
+use Rattle.forms.specs.declared.Request.TheVariants.{TotalLine}
 use Rattle.reply.specs.Shown.{TotalShown}
 use Rattle.condition.specs.declared.Condition.{Condition}
 use Rattle.condition.specs.Condition.{empty}
@@ -21,7 +21,7 @@ StoredIsTheSum = (ls : List Sent) → (condition_after empty ls).total ≡ weigh
 abbrev pub TotalStandsAlone : Type 0
 TotalStandsAlone =
     (line : List ℕ) (lent : ℕ) →
-    Asks line lent TotalLine ↔ ((96 ≤ lent) × SoundLine line × (tokens line ≡ opened ∷ run (bytes "total") ∷ closed ∷ []))
+    Asks line lent (Some TotalLine) ↔ ((96 ≤ lent) × SoundLine line × (tokens line ≡ opened ∷ run (bytes "total") ∷ closed ∷ []))
 
 -- with anything else behind the word it is 14
 abbrev pub TotalWithItems : Type 0
@@ -38,12 +38,12 @@ pub record TotalGiven (c : Condition) (w : ℕ) (o : Outcome) : Type 0 where
 -- W is the weight moment of all holds
 abbrev pub TotalsAreShown : Type 0
 TotalsAreShown =
-    (c : Condition) (line : List ℕ) (lent : ℕ) → Within c → Asks line lent TotalLine → TotalGiven c (weight c) (step_of c line lent)
+    (c : Condition) (line : List ℕ) (lent : ℕ) → Within c → Asks line lent (Some TotalLine) → TotalGiven c (weight c) (step_of c line lent)
 
 -- and comes from the stored figure, which has 64 bits, in every condition
 abbrev pub StoredIsShown : Type 0
 StoredIsShown =
-    (c : Condition) (line : List ℕ) (lent : ℕ) → c.total ≤ 18446744073709551615 → Asks line lent TotalLine →
+    (c : Condition) (line : List ℕ) (lent : ℕ) → c.total ≤ 18446744073709551615 → Asks line lent (Some TotalLine) →
     TotalGiven c c.total (step_of c line lent)
 
 -- the records of a condition within its limits, sent to an empty panel (sending/specs/Laws.antt), have the same figure there

@@ -10,7 +10,7 @@ use borrow.Author.Tests.{ltb-false, le-ltb}
 use Rattle.whole.specs.Lists.{all}
 use Rattle.text.specs.Token.{allowed, tokens}
 use Rattle.std.specs.Prelude.{Ok, Err}
-use Rattle.line_codes.specs.declared.Fault.TheVariants.{TooLong, BadByte, NotOneForm, BadNumber}
+use Rattle.line_codes.specs.declared.Fault.TheVariants.{TooLong, BadByte, NotOneForm, BadNumber, NoShape}
 use Rattle.line_codes.specs.Line.{Reading, deepest, one_form, sound_token, reading_of}
 use Rattle.line_codes.specs.Alike.{AllowedLine, SameTokensSameReading}
 use Rattle.line_codes.proofs.Along.{form_alike}
@@ -29,7 +29,24 @@ passes_by s false true true false e f g =
     let z : ◌≡◌ {A = ℕ} 0 1 = cc in absurd (omega arith)
 passes_by s false true true true e f g = (record { long = ltb-false 2000 (length s) e; bytes = f }, refl)
 
-module _ (s : List ℕ) (e : reading_of s ≡ (Ok tt)) where
+-- no test of the whole line says that it has no shape
+shape_by : (w x y z : Bool) → first_of w x y z ≡ Err NoShape → ⊥
+shape_by true x y z e =
+    let z : ◌≡◌ {A = ℕ} 0 1 = cc in omega arith
+shape_by false false y z e =
+    let z : ◌≡◌ {A = ℕ} 0 1 = cc in omega arith
+shape_by false true false z e =
+    let z : ◌≡◌ {A = ℕ} 0 1 = cc in omega arith
+shape_by false true true false e =
+    let z : ◌≡◌ {A = ℕ} 0 1 = cc in omega arith
+shape_by false true true true e =
+    let z : ◌≡◌ {A = ℕ} 0 1 = cc in omega arith
+
+pub untested_shape : (s : List ℕ) → reading_of s ≡ Err NoShape → ⊥
+unfolding reading_of
+untested_shape s = shape_by (ltb 2000 (length s)) (all allowed s) (one_form (deepest (tokens s)) s) (all sound_token (tokens s))
+
+module _ (s : List ℕ) (e : reading_of s ≡ Ok tt) where
   passes : AllowedLine s × (all sound_token (tokens s) ≡ true)
   unfolding reading_of
   passes = passes_by s (ltb 2000 (length s)) (all allowed s) (one_form (deepest (tokens s)) s) (all sound_token (tokens s)) refl refl e

@@ -10,7 +10,7 @@ use borrow.Author.Tests.{ltb-true, ltb-false}
 use Rattle.whole.specs.Lists.{all}
 use Rattle.line_codes.specs.Line.{Reading}
 use Rattle.std.specs.Prelude.{Ok, Err}
-use Rattle.line_codes.specs.declared.Fault.TheVariants.{TooLong, BadByte, NotOneForm, BadNumber}
+use Rattle.line_codes.specs.declared.Fault.TheVariants.{TooLong, BadByte, NotOneForm, BadNumber, NoShape}
 use Rattle.text.specs.Token.{allowed, tokens}
 use Rattle.line_codes.specs.Line.{is_show, deepest, one_form, reading_of, reading_code}
 use Rattle.line_codes.specs.Codes.{Nested, four, five, NoNumber, LineCode}
@@ -101,3 +101,12 @@ module _ (s : List ℕ) where
 pub line_code : (s : List ℕ) → LineCode s (reading_code (reading_of s))
 unfolding reading_of
 line_code s = by_tests s (ltb 2000 (length s)) (all allowed s) (one_form (deepest (tokens s)) s) (sound s) refl refl refl refl
+
+-- a line with code 0 passes the tests
+pub passes : (t : Reading) → reading_code t ≡ 0 → t ≡ Ok tt
+passes (Ok tt) e = refl
+passes (Err TooLong) e = absurd (omega arith)
+passes (Err BadByte) e = absurd (omega arith)
+passes (Err NotOneForm) e = absurd (omega arith)
+passes (Err BadNumber) e = absurd (omega arith)
+passes (Err NoShape) e = absurd (omega arith)
