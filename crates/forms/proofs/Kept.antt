@@ -5,6 +5,7 @@ use mathlib.Core.Bool.{true}
 use Prim.Native.Nat.{ℕ, zero, suc}
 use native.Mathlib.Omega.{arith}
 use lib.Dec.{eqb}
+use Rattle.std.proofs.lemmas.List.{take-map}
 use lib.ListN.{get_or, get_or-map}
 use borrow.Author.Tests.{ne_eqb}
 use Rattle.whole.specs.Lists.{within, all}
@@ -21,7 +22,7 @@ use Rattle.limits.specs.Limits.{edge, displacement, ship_limits, load_limits, co
 use Rattle.items.specs.Carried.{carried}
 use Rattle.items.proofs.Kept.{kept_within, same_test, kept_last, same_all, kept_all}
 use Rattle.parts.specs.Carried.{carried_part}
-use Rattle.parts.proofs.Kept.{take_map, same_part}
+use Rattle.parts.proofs.Kept.{same_part}
 use Rattle.forms.specs.Carried.{carried_rule, carried_ship, carried_load, carried_column, carried_hold, carried_item}
 
 -- ---- a ship
@@ -90,6 +91,6 @@ same_hold h =
     let m = h.head.mode in
     simp (
       same_test,
-      take_map carried_part h.head.count h.parts,
+      take-map carried_part h.head.count h.parts,
       same_all (part_limits m) carried_part (same_part m) (parts_of h),
     )

@@ -1,11 +1,10 @@
 -- No test of a cell's or a part's limits sees how its numbers are carried, and a cell within its limits is carried as it is.
 use mathlib.Core.Path.{◌≡◌, refl, ap}
 use mathlib.Core.Bool.{Bool, true, false, ◌&&◌}
-use mathlib.Core.List.{List, [], ◌∷◌, map}
-use Prim.Native.Nat.{ℕ, zero, suc}
+use mathlib.Core.List.{map}
 use native.Mathlib.Omega.{arith}
 use lib.Dec.{leb}
-use lib.ListN.{take}
+use Rattle.std.proofs.lemmas.List.{take-map}
 use Rattle.whole.specs.Lists.{within, all, sum_of}
 use Rattle.whole.proofs.Lists.{and_true}
 use Rattle.record.specs.declared.Cell.{Cell}
@@ -46,13 +45,8 @@ kept_cell (Void w d l) e =
     cc
 
 -- ---- a part: the sum of its widths is tested only where each width is within its limits, and so carried as it is
-pub take_map : {A B : Type 0} (f : A → B) (n : ℕ) (l : List A) → take n (map f l) ≡ map f (take n l)
-take_map f zero l = refl
-take_map f (suc n) [] = refl
-take_map f (suc n) (x ∷ l) = rw (take_map f n l)
-
 carried_cells : (p : Part) → cells_of (carried_part p) ≡ map carried_cell (cells_of p)
-carried_cells p = take_map carried_cell p.count p.cells
+carried_cells p = take-map carried_cell p.count p.cells
 
 guarded : (a b c d : Bool) → (b ≡ true → c ≡ d) → (a && b && c) ≡ (a && b && d)
 guarded true true c d h = h refl
