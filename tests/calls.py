@@ -23,7 +23,7 @@ KNOWN_CALLS = [
     ("hearing::hear", "request::request_of"),
     ("line_codes::reading_of", "line_codes::one_form"),
     ("line_codes::all_sound", "line_codes::is_sound"),
-    ("line_codes::is_sound", "text::number_of"),
+    ("line_codes::is_number_if_digit", "text::number_of"),
 ]
 
 # What stands in a crate's source where a function begins, and, behind the spaces, one that stands in something.
@@ -37,6 +37,10 @@ NO_CODE = re.compile(r'//[^\n]*|"(?:[^"\\]|\\.)*"')
 # other, and a function whose address is taken, so that any other can call it, would not say which function is called.
 CALLS = {"Fn", "Method", "Prim"}
 NOT_SAID = {"CallV", "FnAddr", "Vtable", "Fork"}
+
+
+# What stands in the graph between a function's name and those that are handed to it.
+WITH = " with "
 
 
 class NoGraph(Exception):
@@ -206,8 +210,9 @@ def other_cycles(graph, crates):
 
 def graph_of(texts, own=()):
     """Each function that the compiler made, with those that it can call: those that its body names, those that it hands on,
-    and those that are handed to it. The functions of other crates than these are the toolchain's: they can call back only what
-    is handed to them."""
+    and those that are handed to it. One that calls what it is handed stands there once for each set of functions that a call
+    hands to it, as it is another function for each. The functions of other crates than these are the toolchain's: they can call
+    back only what is handed to them."""
     made = {}
     for text in texts:
         for name, body in definitions(text):
@@ -217,12 +222,25 @@ def graph_of(texts, own=()):
     if not made:
         raise NoGraph("there is no function")
     pass_on(made)
-    graph = {name: function.named | (function.handed if function.is_given else set()) for name, function in made.items()}
-    crates = {crate_of(name) for name in graph} | set(own)
-    ours = {called for named in graph.values() for called in named if crate_of(called) in crates}
-    if not ours <= set(graph):
-        raise NoGraph(f"functions are called that are not there: {sorted(ours - set(graph))}")
-    return {name: named & ours for name, named in graph.items()}
+    crates = {crate_of(name) for name in made} | set(own)
+    graph, ahead = {}, [(function, function.at_hand(None)) for function in made.values()]
+    while ahead:
+        function, handed = ahead.pop()
+        if label(function, handed) in graph:
+            continue
+        calls = function.calls(handed)
+        ours = {name for name, _ in calls if crate_of(name) in crates}
+        if not ours <= set(made):
+            raise NoGraph(f"functions are called that are not there: {sorted(ours - set(made))}")
+        met = [(made[name], made[name].at_hand(given)) for name, given in calls if name in ours]
+        graph[label(function, handed)] = {label(*one) for one in met}
+        ahead += met
+    return graph
+
+
+def label(function, handed):
+    """A function's name; where it calls what it is handed, and some caller hands it less than all its callers together, with that."""
+    return function.name if handed == function.at_hand(None) else f"{function.name}{WITH}{', '.join(sorted(handed))}"
 
 
 def definitions(text):
@@ -253,8 +271,8 @@ class Function:
                 raise NoGraph(f"{name} has a call that does not say of which function, or the address of one ({word})")
         self.methods = {impl["name"]: set(impl["methods"]) for impl in made["generics"].get("impls", [])}
         self.is_given = any(True for _ in standing(self.body, "Given"))
-        # What this function's callers hand to it.
-        self.handed = set()
+        # What this function's callers hand to it, all together.
+        self.handed = frozenset()
         # What is handed: to which functions (None: those that were handed to this one), which, and whether those too that were handed to this one.
         self.hands = []
         try:
@@ -266,24 +284,35 @@ class Function:
         for called, *_ in standing(self.body, "Call"):
             if not (isinstance(called, dict) and len(called) == 1 and set(called) <= CALLS):
                 raise NoGraph(f"{self.name} has a call that does not say of which function")
+        # Each with what is handed to it there, and whether that too which is handed to this function.
         named = set()
         for name, at in standing(self.body, "Fn"):
             if not isinstance(name, str):
                 raise TypeError
-            named.add(name)
-            self._hand({name}, at["dicts"])
+            named.add((name, *self._hand({name}, at["dicts"])))
         for name, _, inside in standing(self.body, "Impl"):
-            named |= self.methods[name]
+            named |= {(method, None, False) for method in self.methods[name]}
             self._hand(self.methods[name], inside)
         for of, _, at in standing(self.body, "Method"):
             self._hand(self.methods[of["Impl"][0]] if "Impl" in of else None, at["dicts"])
         return named
 
+    def calls(self, handed):
+        """The functions that it can call where these are handed to it, each with what it hands to that one (None: what any does)."""
+        through = {(name, None) for name in (handed if self.is_given else ())}
+        return through | {(name, None if given is None else given | (handed if on else frozenset())) for name, given, on in self.named}
+
+    def at_hand(self, given):
+        """What it is handed at such a call; nothing where it calls none of it. A call that hands nothing to one that needs something is
+        taken for one that hands it all that it is handed anywhere."""
+        return frozenset() if not self.is_given else given or self.handed
+
     def _hand(self, to, given):
-        handed = set().union(*(self.methods[impl[0]] for impl in standing(given, "Impl")))
+        handed = frozenset().union(*(self.methods[impl[0]] for impl in standing(given, "Impl")))
         passes_on = any(True for _ in standing(given, "Given"))
         if handed or passes_on:
             self.hands.append((to, handed, passes_on))
+        return handed, passes_on
 
 
 def standing(tree, word):
@@ -337,8 +366,8 @@ def crate_of(function):
 
 
 def last_name(function):
-    """A function's name without its crate and the modules that it stands in."""
-    return function.split("::")[-1]
+    """A function's name without its crate, the modules that it stands in and what it is handed."""
+    return function.partition(WITH)[0].split("::")[-1]
 
 
 def reached(graph, start):
@@ -448,6 +477,15 @@ HANDED = [
       made_of("b::f", call("c::by", handing(impl_of("b::m"))), table_of("b::m")), made_of("b::m", CALL_GIVEN),
       called("c::h", ["b::m"])],
      ["b", "c"]),
+    ("one that calls back with another in hand",
+     [made_of("a::by", CALL_GIVEN), made_of("b::f", call("a::by", handing(impl_of("b::g"))), table_of("b::g")),
+      made_of("b::g", call("a::by", handing(impl_of("b::h"))), table_of("b::h")), made_of("b::h", [])],
+     []),
+    ("one that calls back with itself in hand, behind another",
+     [made_of("a::by", CALL_GIVEN), made_of("b::f", call("a::by", handing(impl_of("b::g"))), table_of("b::g")),
+      made_of("b::g", call("a::by", handing(impl_of("b::h"))), table_of("b::h")),
+      made_of("b::h", call("a::by", handing(impl_of("b::g"))), table_of("b::g"))],
+     ["a", "b"]),
 ]
 
 # Texts of made-up programs from which nothing is linked, and the crates with a cycle.

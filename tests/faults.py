@@ -78,57 +78,51 @@ file: crates/panel/src/lib.rt
 old: const LEAST_ROOM: usize = 96;
 new: const LEAST_ROOM: usize = 128;
 file: crates/panel/proofs/Answers.antt
-old: handed_room : (h : Heard) (n : ℕ) → 96 ≤ n →
-new: handed_room : (h : Heard) (n : ℕ) → 128 ≤ n →
-old: handed_room h n p = rw (le-ltb n 96 p)
-new: handed_room h n p = rw (le-ltb n 128 p)
-old: handed_none : (h : Heard) (n : ℕ) → n < 96 →
-new: handed_none : (h : Heard) (n : ℕ) → n < 128 →
-old: handed_none h n p = rw (lt-ltb n 96 p)
-new: handed_none h n p = rw (lt-ltb n 128 p)
-old: step_none : n < 96 →
-new: step_none : n < 128 →
+old: pub handed_room : (r : Request) (n : ℕ) → 96 ≤ n → handed_on (Ok r) n ≡ moment_found r
+new: pub handed_room : (r : Request) (n : ℕ) → 128 ≤ n → handed_on (Ok r) n ≡ moment_found r
+old: handed_room r n p = rw (le-ltb n 96 p)
+new: handed_room r n p = rw (le-ltb n 128 p)
+old: handed_any (Ok r) n p = rw (le-ltb n 96 (omega arith))
+new: handed_any (Ok r) n p = rw (le-ltb n 128 (omega arith))
+old: pub handed_none : (h : Result Request Fault) (n : ℕ) → n < 96 → handed_on h n ≡ 0
+new: pub handed_none : (h : Result Request Fault) (n : ℕ) → n < 128 → handed_on h n ≡ 0
+old: handed_none (Ok r) n p = rw (lt-ltb n 96 p)
+new: handed_none (Ok r) n p = rw (lt-ltb n 128 p)
+old: pub step_none : n < 96 → step_of c line n ≡ record { code = 15; reply = []; after = c }
+new: pub step_none : n < 128 → step_of c line n ≡ record { code = 15; reply = []; after = c }
 old: step_none p = rw (lt-ltb n 96 p)
 new: step_none p = rw (lt-ltb n 128 p)
+old: step_is : (h : Result Request Fault) → h ≡ heard_of line → step_of c line n ≡ cond (ltb n 96) (record { code = 15; reply = []; after = c }) (outcome h)
+new: step_is : (h : Result Request Fault) → h ≡ heard_of line → step_of c line n ≡ cond (ltb n 128) (record { code = 15; reply = []; after = c }) (outcome h)
+old: pub step_refused : 96 ≤ n → step_of c line n ≡ answered (refused_with (fault_code f) c)
+new: pub step_refused : 128 ≤ n → step_of c line n ≡ answered (refused_with (fault_code f) c)
+old: step_refused p = step_is (Err f) heard ∙ rw (le-ltb n 96 p)
+new: step_refused p = step_is (Err f) heard ∙ rw (le-ltb n 128 p)
+old: fault_kept = rw (step_is (Err f) heard) (by (ltb n 96))
+new: fault_kept = rw (step_is (Err f) heard) (by (ltb n 128))
+old: pub step_request : 96 ≤ n → step_of c line n ≡ outcome_of c (tokens line) n r
+new: pub step_request : 128 ≤ n → step_of c line n ≡ outcome_of c (tokens line) n r
+old: step_request p = step_is (Ok r) heard ∙ rw (le-ltb n 96 p)
+new: step_request p = step_is (Ok r) heard ∙ rw (le-ltb n 128 p)
 old: lent_room : (step_of c line n).code ≡ 0 → 96 ≤ n
 new: lent_room : (step_of c line n).code ≡ 0 → 128 ≤ n
 old: lent_room e = by (ltb n 96) refl
 new: lent_room e = by (ltb n 128) refl
 old: by : (x : Bool) → ltb n 96 ≡ x → 96 ≤ n
 new: by : (x : Bool) → ltb n 128 ≡ x → 128 ≤ n
-old: step_none (ltb-true n 96 t)
-new: step_none (ltb-true n 128 t)
+old: by true t = absurd (omega (arith, ap (λ (o : Outcome). o.code) (step_none (ltb-true n 96 t)), e))
+new: by true t = absurd (omega (arith, ap (λ (o : Outcome). o.code) (step_none (ltb-true n 128 t)), e))
 old: by false t = ltb-false n 96 t
 new: by false t = ltb-false n 128 t
-old: nothing_by line TooLong f n = none_of (ltb n 96)
-new: nothing_by line TooLong f n = none_of (ltb n 128)
-old: nothing_by line BadByte f n = none_of (ltb n 96)
-new: nothing_by line BadByte f n = none_of (ltb n 128)
-old: nothing_by line NotOneForm f n = none_of (ltb n 96)
-new: nothing_by line NotOneForm f n = none_of (ltb n 128)
-old: nothing_by line BadNumber f n = none_of (ltb n 96)
-new: nothing_by line BadNumber f n = none_of (ltb n 128)
-old: step_heard : 96 ≤ n →
-new: step_heard : 128 ≤ n →
-old: step_heard p = rw (le-ltb n 96 p
-new: step_heard p = rw (le-ltb n 128 p
-old: step_refused : 96 ≤ n →
-new: step_refused : 128 ≤ n →
-old: step_request : 96 ≤ n →
-new: step_request : 128 ≤ n →
-old: ≡ cond (ltb n 96)
-new: ≡ cond (ltb n 128)
-old: asked_by (ltb n 96)
-new: asked_by (ltb n 128)
 file: crates/panel/proofs/Codes.antt
-old: (ltb lent 96)
-new: (ltb lent 128)
+old: right = right_if c changed (ltb lent 96) (right_same c 15 refl) (right_after (reading_of line))
+new: right = right_if c changed (ltb lent 128) (right_same c 15 refl) (right_after (reading_of line))
 file: crates/panel/proofs/Room.antt
-old: le-ltb n 96 (omega arith)
-new: le-ltb n 128 (omega arith)
+old: any_room line = rw (le-ltb n 96 (omega arith), any_after line (reading_of line))
+new: any_room line = rw (le-ltb n 128 (omega arith), any_after line (reading_of line))
 file: crates/panel/proofs/answer/Answers.antt
-old: let room : 96 ≤ length
-new: let room : 128 ≤ length
+old: let room : 96 ≤ length c.args.out.now = search rules in
+new: let room : 128 ≤ length c.args.out.now = search rules in
 """
 
 SHOW_ROOM_2200 = """
@@ -149,20 +143,22 @@ new: 2200 (search rules)
 file: crates/panel/proofs/Room.antt
 old: (p : 2100 ≤ n)
 new: (p : 2200 ≤ n)
-old: ≡ outcome_by c ts 2100 k h col
-new: ≡ outcome_by c ts 2200 k h col
+old: ≡ outcome_of c ts 2100 r
+new: ≡ outcome_of c ts 2200 r
 old: le-ltb n 2100 p
 new: le-ltb n 2200 p
-old: ≡ outcome_after c line 2100 r
-new: ≡ outcome_after c line 2200 r
+old: ≡ outcome_asked c ts 2100 o
+new: ≡ outcome_asked c ts 2200 o
+old: ≡ outcome_after c line 2100 t
+new: ≡ outcome_after c line 2200 t
 old: ≡ step_of c line 2100
 new: ≡ step_of c line 2200
 """
 
 FULL_AT_ONCE = """
 file: crates/columns/specs/Columns.antt
-old: (cond (leb 20 (length ks)) Full
-new: (cond (leb 0 (length ks)) Full
+old: (cond (leb 20 (length ks)) (Err Full)
+new: (cond (leb 0 (length ks)) (Err Full)
 file: crates/columns/src/lib.rt
 old:     if 20 <= n {
 new:     if 0 <= n {
@@ -301,8 +297,8 @@ new:     let figure = c.exchange-figure.ensures in
 
 DROP_PUTS_ON = """
 file: crates/effects/src/lib.rt
-old:         Kind::DropLine(n) => storing::with_hold(c, n, record::no_hold(), 0),
-new:         Kind::DropLine(n) => storing::with_hold(c, n, record::no_hold(), c.total),
+old:         Request::DropLine(n) => storing::with_hold(c, n, record::no_hold(), 0),
+new:         Request::DropLine(n) => storing::with_hold(c, n, record::no_hold(), c.total),
 file: crates/effects/specs/Effect.antt
 old: (with_hold c n no_hold 0)
 new: (with_hold c n no_hold c.total)
@@ -329,53 +325,36 @@ def clear_keeps(field):
 file: crates/effects/src/lib.rt
 old: ghost use Rattle.effects.specs.Effect.{{effect_of}};
 new: ghost use Rattle.effects.specs.Effect.{{effect_of, cleared_of}};
-old: pub fn effect(c: Condition, r: Request, moment: u64) -> Condition
-new: fn cleared(c: Condition) -> Condition ensures {{ result ≡ cleared_of c }} {{ let kept = c.{field}; let mut e = condition::empty_condition(); e.{field} = kept; e }} pub fn effect(c: Condition, r: Request, moment: u64) -> Condition
-old:         Kind::ClearLine => condition::empty_condition(),
-new:         Kind::ClearLine => cleared(c),
+old: #[tactic(auto, unfolding(crate::specs::Effect::effect_of))]
+new: fn cleared(c: Condition) -> Condition ensures {{ result ≡ cleared_of c }} {{ let kept = c.{field}; let mut e = condition::empty_condition(); e.{field} = kept; e }} #[tactic(auto, unfolding(crate::specs::Effect::effect_of))]
+old:         Request::ClearLine => condition::empty_condition(),
+new:         Request::ClearLine => cleared(c),
 file: crates/effects/specs/Effect.antt
 old: -- what a request puts into the condition, w being the moment of its hold. It is taken only where the request is answered with 00; elsewhere its value is free,
 new: abbrev pub cleared_of : Condition → Condition
 old: -- and these are the simplest
 new: cleared_of c = record {{ {after} }}
-old: effect_by c ClearLine h k w = empty
-new: effect_by c ClearLine h k w = cleared_of c
-file: crates/effects/proofs/effect/Answers.antt
-old: c.empty_condition.ensures
-new: c.cleared.ensures
-file: crates/effects/proofs/cleared/Answers.antt
-new: use mathlib.Core.Path.{{refl}}
-new: use Rattle.effects.proofs.cleared.Goals as goal
-new: pub returns : goal.returns
-new: returns c = rw c.empty_condition-e.ensures refl
+old: effect_of c ClearLine w = empty
+new: effect_of c ClearLine w = cleared_of c
 file: crates/panel/specs/Step.antt
 old: use Rattle.condition.specs.Condition.{{empty}}
 new: use Rattle.effects.specs.Effect.{{cleared_of}}
-old: outcome_by c ts n ClearLine h k = answered (taken empty)
-new: outcome_by c ts n ClearLine h k = answered (taken (cleared_of c))
+old: outcome_of c ts n ClearLine = answered (taken empty)
+new: outcome_of c ts n ClearLine = answered (taken (cleared_of c))
 """
 
 
 KG_OF_ZERO = """
 file: crates/weights/src/lib.rt
-old:     if n == 0 {
+old: using(crate::proofs::Weights::kg_none, crate
+new: using(crate
+old:     if n == 0 || d == 0 {
 new:     if d == 0 {
 file: crates/weights/specs/Weights.antt
 old: {Bool, ℕ, ◌+◌, ◌*◌, min, max, leb}
 new: {Bool, ℕ, ◌+◌, ◌-◌, ◌*◌, min, max, leb}
 old: max 1 (ceil_div
 new: max (1 - s.tonnes) (ceil_div
-file: crates/weights/proofs/weighed_kg/Answers.antt
-old: pub returns-then-d-eq0 : goal.returns-then-d-eq0
-new: pub returns-then-d-eq0-2 : goal.returns-then-d-eq0-2
-old: returns-then-d-eq0 c = sym (kg_undivided c.args.s c.if-d-eq0.true)
-new: returns-then-d-eq0-2 c = sym (kg_undivided c.args.s c.if-d-eq0-2.true)
-old: pub returns-then-n-eq0 : goal.returns-then-n-eq0
-new: pub returns-then-d-eq0 : goal.returns-then-d-eq0
-old: returns-then-n-eq0 c = sym (kg_none c.args.s c.if-n-eq0.true)
-new: returns-then-d-eq0 c = sym (kg_undivided c.args.s c.if-d-eq0.true)
-old: (kg_up_lem s (omega (arith, c.if-d-eq0.false)) (omega (arith, c.if-n-eq0.false))
-new: (kg_up_lem s (omega (arith, c.if-d-eq0.false))
 file: crates/weights/proofs/Weights.antt
 old: kg_up_lem : 0 < s.products → s.products
 new: kg_up_lem : s.products
@@ -389,26 +368,18 @@ new: (kg_up_lem s some l)
 """
 
 TOTAL_CAPPED = """
-file: crates.txt
-old: panel: whole record
-new: panel: choice whole record
 file: crates/panel/src/lib.rt
-old: ghost use Rattle.std.specs.Prelude.{◌≡◌, ◌≤◌, length};
-new: ghost use Rattle.std.specs.Prelude.{◌≡◌, ◌≤◌, length, min};
+old: ghost use Rattle.std.specs.Prelude.{◌≡◌, ◌≤◌, length, Some, option_map};
+new: ghost use Rattle.std.specs.Prelude.{◌≡◌, ◌≤◌, length, Some, option_map, min};
 old: Replies 0 (total_reply figure) 0 result
 new: Replies 0 (total_reply (min figure 1000000000)) 0 result
 old:     let len = reply::total(out, figure);
-new:     let len = reply::total(out, choice::smaller(figure, 1000000000));
+new:     let len = reply::total(out, figure.min(1000000000));
 file: crates/panel/specs/Step.antt
 old: ◌∷◌, ℕ, ltb, length}
-new: ◌∷◌, ℕ, ltb, length, min}
+new: ◌∷◌, ℕ, min, ltb, length}
 old: reply = total_reply c.total
 new: reply = total_reply (min c.total 1000000000)
-file: crates/panel/proofs/show_total/Answers.antt
-new: use mathlib.Core.Path.{refl}
-new: use Rattle.panel.proofs.show_total.Goals as goal
-new: pub returns : goal.returns
-new: returns c = let t = rw c.smaller.ensures at c.total-len.ensures in record { coded = refl; long = t.value; moment = refl; written = t.out_after }
 """
 
 
