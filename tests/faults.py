@@ -167,6 +167,8 @@ old: pub returns-then-n-ge20 : goal.returns-then-n-ge20
 new: pub returns-then-n-ge0 : goal.returns-then-n-ge0
 old: returns-then-n-ge20 c =
 new: returns-then-n-ge0 c =
+old: let few : length (held a.cs) < 20 =
+new: let few : length (held a.cs) < 0 =
 file: crates/columns/proofs/Adding.antt
 old: answer_full : 20 ≤ length ks
 new: answer_full : 0 ≤ length ks
