@@ -46,7 +46,7 @@ pub enum FormWord {
 
 // ---- ships, loads, drops, columns
 
-// The word of a rule.
+// The word of a rule. Of a `match` on the bytes the proof has a goal for each byte at which two words part.
 #[tactic(auto, using(items::proofs::Words::named_here, items::proofs::Words::named_past, items::proofs::Words::named_none))]
 fn rule_named(word: &[u8]) -> Option<RuleWord>
     ensures { result ≡ rule_named word.now }
@@ -139,7 +139,7 @@ fn parts<'a>(n: u32, mode: Mode, s: &'a [u8]) -> Option<(Request, &'a [u8])>
     Some((Request::HoldLine(n, hold), rest))
 }
 
-// The word of a mode.
+// The word of a mode, found in the same way.
 #[tactic(auto, using(items::proofs::Words::named_here, items::proofs::Words::named_past, items::proofs::Words::named_none))]
 fn mode_named(word: &[u8]) -> Option<Mode>
     ensures { result ≡ mode_named word.now }
@@ -168,7 +168,7 @@ fn hold<'a>(s: &'a [u8]) -> Option<(Request, &'a [u8])>
 
 // ---- a form by its word
 
-// The word of a form.
+// The word of a form, found in the same way.
 #[tactic(auto, using(items::proofs::Words::named_here, items::proofs::Words::named_past, items::proofs::Words::named_none))]
 pub fn form_word(word: &[u8]) -> Option<FormWord>
     ensures { result ≡ form_word word.now }

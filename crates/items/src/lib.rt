@@ -86,6 +86,7 @@ pub fn last_sizes<'a, const N: usize>(s: &'a [u8]) -> Option<([u16; N], &'a [u8]
 }
 
 // The last items of a form, at least one and at most as many as there are places, and its closing bracket: how many there are, each in its place.
+// No `for` over the places: the items end at a closing bracket, of which the places say nothing.
 pub fn several<'a, T: Copy, F: Fn(&'a [u8]) -> Option<(T, &'a [u8])>>(
     s: &'a [u8],
     places: &mut [T],

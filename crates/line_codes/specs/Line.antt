@@ -78,6 +78,11 @@ deepest ts = cond (is_show ts) 5 4
 abbrev pub Reading : Type 0
 Reading = Result (Unit {0}) Fault
 
+-- what a test of the whole line answers: it passes, or the fault that it is made for
+abbrev pub tested : Fault → Bool → Reading
+tested f true = Ok tt
+tested f false = Err f
+
 -- the first test that a line fails
 unfoldable pub reading_of : List ℕ → Reading
 reading_of s =

@@ -6,8 +6,9 @@ ghost use Rattle.std.specs.List.{list_all};
 ghost use Rattle.whole.specs.Lists.{all};
 ghost use Rattle.text.specs.Token.{allowed, tokens};
 ghost use Rattle.text.specs.Front.{said};
+ghost use Rattle.line_codes.specs.declared.Fault.TheVariants.{BadByte, NotOneForm, BadNumber};
 ghost use Rattle.line_codes.specs.declared.Part.TheVariants.{Inside, Behind};
-ghost use Rattle.line_codes.specs.Line.{deepest, one_form, number_if_digit, sound_token, reading_of, fault_code};
+ghost use Rattle.line_codes.specs.Line.{deepest, one_form, number_if_digit, sound_token, tested, reading_of, fault_code};
 ghost use Rattle.line_codes.specs.Parts.{PartIs};
 
 use text::Piece;
@@ -45,11 +46,20 @@ fn is_allowed(b: u8) -> bool
     text::is_in_run(b) || b == b' ' || b == b'(' || b == b')'
 }
 
-// 11: whether every byte may stand in a line.
 fn all_allowed(s: &[u8]) -> bool
     ensures { result ≡ list_all allowed s.now }
 {
     s.iter().all(|b| is_allowed(*b))
+}
+
+// 11: every byte may stand in a line.
+fn only_allowed(s: &[u8]) -> Result<(), Fault>
+    ensures { result ≡ tested BadByte (list_all allowed s.now) }
+{
+    if !all_allowed(s) {
+        return Err(Fault::BadByte);
+    }
+    Ok(())
 }
 
 // How deep a line's form may be nested: five where its first word is `show`, else four.
@@ -97,25 +107,25 @@ fn behind(most: usize, part: Part, piece: Piece<'_>) -> Option<Part>
     }
 }
 
-// 12: whether a line of allowed bytes is one closed form, no deeper than its first word lets.
-fn one_form(s: &[u8]) -> bool
+// 12: a line of allowed bytes is one closed form, no deeper than its first word lets.
+fn one_form(s: &[u8]) -> Result<(), Fault>
     requires { all allowed s.now ≡ true }
-    ensures { result ≡ one_form (deepest (tokens s.now)) s.now }
+    ensures { result ≡ tested NotOneForm (one_form (deepest (tokens s.now)) s.now) }
 {
     let most = deepest(s);
     let mut part = Part::Before;
     let mut left = s;
     while let Some((piece, rest)) = text::first_piece(left) {
         let Some(next) = behind(most, part, piece) else {
-            return false;
+            return Err(Fault::NotOneForm);
         };
         part = next;
         left = rest;
     }
     match part {
-        Part::Before => false,
-        Part::Inside(_) => false,
-        Part::Behind => true,
+        Part::Before => Err(Fault::NotOneForm),
+        Part::Inside(_) => Err(Fault::NotOneForm),
+        Part::Behind => Ok(()),
     }
 }
 
@@ -139,18 +149,18 @@ fn is_sound(piece: Piece<'_>) -> bool
     }
 }
 
-// 13: whether every run of a line that starts with a digit is a number.
-fn all_sound(s: &[u8]) -> bool
-    ensures { result ≡ all sound_token (tokens s.now) }
+// 13: every run of a line that starts with a digit is a number.
+fn all_sound(s: &[u8]) -> Result<(), Fault>
+    ensures { result ≡ tested BadNumber (all sound_token (tokens s.now)) }
 {
     let mut left = s;
     while let Some((piece, tail)) = text::first_piece(left) {
         if !is_sound(piece) {
-            return false;
+            return Err(Fault::BadNumber);
         }
         left = tail;
     }
-    true
+    Ok(())
 }
 
 // The first test that a line fails, each made over the entire line before the next.
@@ -160,16 +170,9 @@ pub fn reading_of(line: &[u8]) -> Result<(), Fault>
     if LONGEST < line.len() {
         return Err(Fault::TooLong);
     }
-    if !all_allowed(line) {
-        return Err(Fault::BadByte);
-    }
-    if !one_form(line) {
-        return Err(Fault::NotOneForm);
-    }
-    if !all_sound(line) {
-        return Err(Fault::BadNumber);
-    }
-    Ok(())
+    only_allowed(line)?;
+    one_form(line)?;
+    all_sound(line)
 }
 
 // The paper's code for each fault.

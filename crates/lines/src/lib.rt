@@ -16,7 +16,8 @@ use panel::Replied;
 const FILLED: usize = 63436;
 
 // What goes from block to block, beside the kept bytes of a line and the replies: the condition, the lines that may still be
-// taken, how many bytes of a line that has begun are kept, and how many bytes of replies wait.
+// taken, how many bytes of a line that has begun are kept, and how many bytes of replies wait. The bytes themselves lie in memory of a fixed size that
+// `service` lends, so that these are counts and no slices.
 #[derive(Clone, Copy)]
 pub struct Feed {
     pub cond: Condition,

@@ -23,7 +23,7 @@ const LEAST_ROOM: usize = 96;
 
 const SHOW_ROOM: usize = 2100;
 
-// A code, the length of the reply that shows it, and the moment of a hold that was weighed for it, which its effect puts into the figure.
+// A code, which is the number that the paper has printed, the length of the reply that shows it, and the moment of a hold that was weighed for it, which its effect puts into the figure.
 #[derive(Clone, Copy)]
 pub struct Replied {
     pub code: u8,

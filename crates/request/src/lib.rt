@@ -49,7 +49,7 @@ fn weighed<'a>(s: &'a [u8]) -> Option<(Request, &'a [u8])>
     Some((Request::WeighingLine(Weighing::Weighed(fs)), rest))
 }
 
-// A line but show by its word.
+// A line but show by its word. Of a `match` on the bytes the proof has a goal for each byte at which two words part.
 #[tactic(auto, using(items::proofs::Words::named_here, items::proofs::Words::named_past, items::proofs::Words::named_other))]
 fn line_word(word: &[u8]) -> Option<LineWord>
     ensures { result ≡ line_word word.now }

@@ -30,7 +30,8 @@ fn write_out(output: &mut Stdout, bytes: &[u8]) -> bool {
     false
 }
 
-// Reads once, at most `most` bytes; an interrupted read is repeated. How many came: 0 at the end of the input, or where a read
+// Reads once, at most `most` bytes; an interrupted read is repeated. It stops at what came, where a write goes on behind what was written, so that each has a
+// loop of its own. How many came: 0 at the end of the input, or where a read
 // fails.
 fn fetch(input: &mut Stdin, block: &mut [u8], most: usize) -> usize
     requires { most ≤ length block.old }

@@ -1,33 +1,23 @@
 -- `reading_of`: the first test that a line fails, each made over the entire line before the next.
 use mathlib.Core.Path.{sym, ◌∙◌}
+use borrow.Author.Rules.{rules}
 use Rattle.whole.proofs.Lists.{list_all_is}
 use Rattle.text.specs.Token.{allowed}
-use Rattle.line_codes.proofs.Order.{too_long, bad_byte, not_one_form, bad_number, is_sound}
+use Rattle.line_codes.specs.declared.Fault.TheVariants.{BadByte}
+use Rattle.line_codes.proofs.Order.{too_long, reading_is, tested_passed}
 use Rattle.line_codes.proofs.reading_of.Goals as goal
 
 pub returns-then-line-gt-LONGEST : goal.returns-then-line-gt-LONGEST
 returns-then-line-gt-LONGEST c = sym (too_long c.args.line.now c.if-line-gt-LONGEST.true)
 
-pub returns-then-not-all_allowed : goal.returns-then-not-all_allowed
-returns-then-not-all_allowed c =
-    sym (bad_byte c.args.line.now c.if-line-gt-LONGEST.false (sym (list_all_is allowed c.args.line.now) ∙ sym c.all_allowed.ensures ∙ c.if-not-all_allowed.true))
+pub returns-in_err-only_allowed : goal.returns-in_err-only_allowed
+returns-in_err-only_allowed c = rw (reading_is c.args.line.now c.if-line-gt-LONGEST.false, ← c.only_allowed.ensures, c.in_err-only_allowed.was) (search rules)
 
 pub one_form-requires : goal.one_form-requires
-one_form-requires c = sym (list_all_is allowed c.args.line.now) ∙ sym c.all_allowed.ensures ∙ c.if-not-all_allowed.false
+one_form-requires c = sym (list_all_is allowed c.args.line.now) ∙ tested_passed BadByte _ c.in_ok-only_allowed.field-0 (sym (c.in_ok-only_allowed.was) ∙ c.only_allowed.ensures)
 
-pub returns-then-not-one_form : goal.returns-then-not-one_form
-returns-then-not-one_form c =
-    let byte = sym (list_all_is allowed c.args.line.now) ∙ sym c.all_allowed.ensures ∙ c.if-not-all_allowed.false in
-    sym (not_one_form c.args.line.now c.if-line-gt-LONGEST.false byte (sym c.one_form.ensures ∙ c.if-not-one_form.true))
-
-pub returns-then-not-all_sound : goal.returns-then-not-all_sound
-returns-then-not-all_sound c =
-    let byte = sym (list_all_is allowed c.args.line.now) ∙ sym c.all_allowed.ensures ∙ c.if-not-all_allowed.false in
-    let form = sym c.one_form.ensures ∙ c.if-not-one_form.false in
-    sym (bad_number c.args.line.now c.if-line-gt-LONGEST.false byte form (sym c.all_sound.ensures ∙ c.if-not-all_sound.true))
+pub returns-in_err-one_form : goal.returns-in_err-one_form
+returns-in_err-one_form c = rw (reading_is c.args.line.now c.if-line-gt-LONGEST.false, ← c.only_allowed.ensures, c.in_ok-only_allowed.was, ← c.one_form.ensures, c.in_err-one_form.was) (search rules)
 
 pub returns : goal.returns
-returns c =
-    let byte = sym (list_all_is allowed c.args.line.now) ∙ sym c.all_allowed.ensures ∙ c.if-not-all_allowed.false in
-    let form = sym c.one_form.ensures ∙ c.if-not-one_form.false in
-    sym (is_sound c.args.line.now c.if-line-gt-LONGEST.false byte form (sym c.all_sound.ensures ∙ c.if-not-all_sound.false))
+returns c = rw (reading_is c.args.line.now c.if-line-gt-LONGEST.false, ← c.only_allowed.ensures, c.in_ok-only_allowed.was, ← c.one_form.ensures, c.in_ok-one_form.was, ← c.all_sound.ensures)
