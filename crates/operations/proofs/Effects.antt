@@ -9,7 +9,6 @@ use Rattle.record.specs.declared.Load.{Load}
 use Rattle.record.specs.declared.Column.{Column}
 use Rattle.record.specs.declared.Hold.{Hold}
 use Rattle.record.specs.declared.WeightItem.{WeightItem}
-use Rattle.record.specs.declared.ItemSums.{ItemSums}
 use Rattle.record.specs.declared.Weighing.TheVariants.{Weight, Weighed, Unweigh}
 use Rattle.record.specs.Held.{held}
 use Rattle.record.specs.Filler.{no_hold, no_sums}
@@ -128,16 +127,6 @@ module _ (c : Condition) where
     pub weighed_taken : rise fs ≡ true → makes_load c.sums ≡ true → weighing_operation c (Weighed fs) ≡ taken (with_load c (weighed_load c.sums fs))
     unfolding weighing_operation
     weighed_taken p h = rw (p, h)
-
-  -- the code, as the tests find it where the sums are these
-  module _ (s : ItemSums) (e : c.sums ≡ s) (x y : Bool) where
-    pub weight_coded : (i : WeightItem) → x ≡ item_limits i → y ≡ has_room s i → cond x (cond y 0 26) 20 ≡ (weighing_operation c (Weight i)).code
-    unfolding weighing_operation
-    weight_coded i p q = rw (p, q, ← e) (sym (two_coded c (item_limits i) (has_room c.sums i) _ 26))
-
-    pub weighed_coded : (fs : ℕ) → x ≡ rise fs → y ≡ makes_load s → cond x (cond y 0 27) 20 ≡ (weighing_operation c (Weighed fs)).code
-    unfolding weighing_operation
-    weighed_coded fs p q = rw (p, q, ← e) (sym (two_coded c (rise fs) (makes_load c.sums) _ 27))
 
   pub unweigh_taken : weighing_operation c Unweigh ≡ taken (with_sums c no_sums)
   unfolding weighing_operation

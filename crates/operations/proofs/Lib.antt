@@ -3,3 +3,4 @@ pub mod Effects
 pub mod Codes
 pub mod Stores
 pub mod Right
+pub mod Answered

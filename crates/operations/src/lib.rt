@@ -3,9 +3,10 @@
 
 ghost use Rattle.std.specs.Prelude.{◌≡◌, cond, ◌-◌, ◌≤◌, get_or};
 ghost use Rattle.record.specs.Filler.{no_hold};
-ghost use Rattle.columns.specs.Columns.{added_code};
-ghost use Rattle.grain.specs.Sum.{weighed_code};
+ghost use Rattle.columns.specs.Columns.{not_added_code, added_code};
+ghost use Rattle.grain.specs.Sum.{not_weighed_code, weighed_code};
 ghost use Rattle.condition.specs.Condition.{is_held};
+ghost use Rattle.operations.specs.Answers.{refusal_code, answer_code, tested, tested_within};
 ghost use Rattle.operations.specs.Operations.{ship_operation, load_operation, column_operation, hold_answer, drop_operation, weighing_operation};
 
 use columns::NotAdded;
@@ -13,58 +14,111 @@ use condition::Condition;
 use grain::NotWeighed;
 use record::{Column, Hold, ItemSums, Load, Ship, Weighing};
 
-// 00 within the limits, 20 outside them.
-fn limit_code(inside: bool) -> u8
-    ensures { result ≡ cond inside 0 20 }
-{
-    if inside { 0 } else { 20 }
+// Why an operation is refused.
+#[derive(Clone, Copy, Debug, PartialEq, Eq)]
+pub enum Refusal {
+    Limits,
+    NoFit,
+    NotAbove,
+    Full,
+    NoHold,
+    TooHeavy,
+    TooLight,
 }
 
-// 00 or 20.
-#[tactic(auto, unfolding(crate::specs::Operations::ship_operation), using(crate::proofs::Effects::by_cond))]
-pub fn ship_code(s: Ship) -> u8
-    ensures { (c : Condition) → result ≡ (ship_operation c s).code }
-{
-    limit_code(limits::ship_limits(s))
+impl From<NotAdded> for Refusal {
+    ghost from_gives = { λ why r. refusal_code r ≡ not_added_code why };
+
+    fn from(why: NotAdded) -> Refusal {
+        match why {
+            NotAdded::Limits => Refusal::Limits,
+            NotAdded::Full => Refusal::Full,
+            NotAdded::NotAbove => Refusal::NotAbove,
+        }
+    }
 }
 
-// 00 or 20.
-#[tactic(auto, unfolding(crate::specs::Operations::load_operation), using(crate::proofs::Effects::by_cond))]
-pub fn load_code(l: Load) -> u8
-    ensures { (c : Condition) → result ≡ (load_operation c l).code }
-{
-    limit_code(limits::load_limits(l))
+impl From<NotWeighed> for Refusal {
+    ghost from_gives = { λ why r. refusal_code r ≡ not_weighed_code why };
+
+    fn from(why: NotWeighed) -> Refusal {
+        match why {
+            NotWeighed::Limits => Refusal::Limits,
+            NotWeighed::NoFit => Refusal::NoFit,
+        }
+    }
 }
 
-// The paper's code for each answer of a list of columns.
-fn added_code(a: Result<(), NotAdded>) -> u8
-    ensures { result ≡ added_code a }
+// The paper's code for each refusal.
+fn refusal_code(why: Refusal) -> u8
+    ensures { result ≡ refusal_code why }
+{
+    match why {
+        Refusal::Limits => 20,
+        Refusal::NoFit => 21,
+        Refusal::NotAbove => 22,
+        Refusal::Full => 23,
+        Refusal::NoHold => 24,
+        Refusal::TooHeavy => 26,
+        Refusal::TooLight => 27,
+    }
+}
+
+// 00, or the code of the refusal.
+pub fn answer_code(a: Result<(), Refusal>) -> u8
+    ensures { result ≡ answer_code a }
 {
     match a {
         Ok(()) => 0,
-        Err(NotAdded::Limits) => 20,
-        Err(NotAdded::Full) => 23,
-        Err(NotAdded::NotAbove) => 22,
+        Err(why) => refusal_code(why),
     }
+}
+
+// A test that refuses.
+fn tested(passed: bool, why: Refusal) -> Result<(), Refusal>
+    ensures { result ≡ tested why passed }
+{
+    if passed { Ok(()) } else { Err(why) }
+}
+
+// 00 or 20.
+#[tactic(auto, unfolding(crate::specs::Operations::ship_operation), using(crate::proofs::Answered::one_answered))]
+pub fn ship_answer(s: Ship) -> Result<(), Refusal>
+    ensures { (c : Condition) → answer_code result ≡ (ship_operation c s).code }
+{
+    tested(limits::ship_limits(s), Refusal::Limits)
+}
+
+// 00 or 20.
+#[tactic(auto, unfolding(crate::specs::Operations::load_operation), using(crate::proofs::Answered::one_answered))]
+pub fn load_answer(l: Load) -> Result<(), Refusal>
+    ensures { (c : Condition) → answer_code result ≡ (load_operation c l).code }
+{
+    tested(limits::load_limits(l), Refusal::Limits)
+}
+
+// What a list of columns answers, as an operation's answer.
+fn added_answer(a: Result<(), NotAdded>) -> Result<(), Refusal>
+    ensures { answer_code result ≡ added_code a }
+{
+    a?;
+    Ok(())
 }
 
 // 00, or 20, 23, 22 in this order.
 #[tactic(auto, unfolding(crate::specs::Operations::column_operation), using(crate::proofs::Effects::change_code))]
-pub fn column_code(c: Condition, k: Column) -> u8
-    ensures { result ≡ (column_operation c k).code }
+pub fn column_answer(c: Condition, k: Column) -> Result<(), Refusal>
+    ensures { answer_code result ≡ (column_operation c k).code }
 {
-    added_code(columns::column_answer(c.columns, k))
+    added_answer(columns::column_answer(c.columns, k))
 }
 
-// The paper's code for each answer of a hold.
-pub fn hold_code(w: Result<u64, NotWeighed>) -> u8
-    ensures { result ≡ weighed_code w }
+// 00, or 20, 21: the answer of a hold's weighing without its moment.
+pub fn weighed_answer(w: Result<u64, NotWeighed>) -> Result<(), Refusal>
+    ensures { answer_code result ≡ weighed_code w }
 {
-    match w {
-        Ok(_) => 0,
-        Err(NotWeighed::Limits) => 20,
-        Err(NotWeighed::NoFit) => 21,
-    }
+    w?;
+    Ok(())
 }
 
 // The answer to a hold line: its code is 00, or 20, 21.
@@ -88,40 +142,40 @@ fn is_held(holds: [Hold; 16], n: u32) -> bool
 }
 
 // 00, or 20, 24.
-#[tactic(auto, unfolding(crate::specs::Operations::drop_operation), using(storing::proofs::Taking::place_within))]
-pub fn drop_code(c: Condition, n: u32) -> u8
-    ensures { result ≡ (drop_operation c n).code }
+#[tactic(auto, unfolding(crate::specs::Operations::drop_operation), using(storing::proofs::Taking::place_within, crate::proofs::Answered::one_answered))]
+pub fn drop_answer(c: Condition, n: u32) -> Result<(), Refusal>
+    ensures { answer_code result ≡ (drop_operation c n).code }
 {
     if !limits::place_limits(n) {
-        return 20;
+        return Err(Refusal::Limits);
     }
-    if !is_held(c.holds, n) {
-        return 24;
-    }
-    0
+    tested(is_held(c.holds, n), Refusal::NoHold)
 }
 
-// 00, or 20 outside the limits, or this code where the test behind them fails.
-fn tested_code(inside: bool, passed: bool, code: u8) -> u8
-    ensures { result ≡ cond inside (cond passed 0 code) 20 }
+// Limits, and a test behind them.
+fn tested_within(inside: bool, passed: bool, why: Refusal) -> Result<(), Refusal>
+    ensures { result ≡ tested_within inside passed why }
 {
-    if !inside {
-        return 20;
-    }
-    if !passed {
-        return code;
-    }
-    0
+    tested(inside, Refusal::Limits)?;
+    tested(passed, why)
 }
 
-// The code of a line of weights where these sums are held: weight 00, or 20, 26; weighed 00, or 20, 27; unweigh 00.
-#[tactic(auto, unfolding(crate::specs::Operations::weighing_operation), using(crate::proofs::Effects::weight_coded, crate::proofs::Effects::weighed_coded))]
-pub fn weighing_code(s: ItemSums, w: Weighing) -> u8
-    ensures { (c : Condition) → c.sums ≡ s → result ≡ (weighing_operation c w).code }
+// A line of weights where these sums are held: weight 00, or 20, 26; weighed 00, or 20, 27; unweigh 00.
+#[tactic(auto, unfolding(crate::specs::Operations::weighing_operation), using(crate::proofs::Answered::weight_answered, crate::proofs::Answered::weighed_answered))]
+pub fn weighing_answer(s: ItemSums, w: Weighing) -> Result<(), Refusal>
+    ensures { (c : Condition) → c.sums ≡ s → answer_code result ≡ (weighing_operation c w).code }
 {
     match w {
-        Weighing::Weight(i) => tested_code(limits::item_limits(i), weights::has_room(s, i), 26),
-        Weighing::Weighed(fs) => tested_code(limits::is_rise(fs), weights::makes_load(s), 27),
-        Weighing::Unweigh => 0,
+        Weighing::Weight(i) => tested_within(
+            limits::item_limits(i),
+            weights::has_room(s, i),
+            Refusal::TooHeavy,
+        ),
+        Weighing::Weighed(fs) => tested_within(
+            limits::is_rise(fs),
+            weights::makes_load(s),
+            Refusal::TooLight,
+        ),
+        Weighing::Unweigh => Ok(()),
     }
 }

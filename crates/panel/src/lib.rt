@@ -9,6 +9,7 @@ ghost use Rattle.request.specs.Shape.{request_of};
 ghost use Rattle.hearing.specs.Hearing.{heard_of};
 ghost use Rattle.grain.specs.Sum.{weighed_code, weighed_moment};
 ghost use Rattle.reply.specs.Replies.{answer_reply, total_reply};
+ghost use Rattle.operations.specs.Answers.{answer_code};
 ghost use Rattle.judging.specs.Judge.{judged_of};
 ghost use Rattle.panel.specs.Step.{verdict_given, show_code, show_answer, outcome_of, step_of, Steps};
 ghost use Rattle.panel.specs.Handed.{moment_found, handed_on, Replies};
@@ -17,6 +18,7 @@ use condition::Condition;
 use forms::Request;
 use grain::NotWeighed;
 use line_codes::Fault;
+use operations::Refusal;
 
 // The least buffer that may be lent for a reply, and for the reply of show, in bytes.
 const LEAST_ROOM: usize = 96;
@@ -54,12 +56,20 @@ fn answer_with(code: u8, out: &mut [u8]) -> Replied
     }
 }
 
+// An operation is answered with 00, or the code of its refusal.
+fn answer_operation(a: Result<(), Refusal>, out: &mut [u8]) -> Replied
+    requires { 96 ≤ length out.old }
+    ensures { Replies (answer_code a) (answer_reply (answer_code a)) 0 result out.old out.new }
+{
+    answer_with(operations::answer_code(a), out)
+}
+
 // A hold line is answered with the code of its weighing, and hands its moment on.
 fn answer_weighed(w: Result<u64, NotWeighed>, out: &mut [u8]) -> Replied
     requires { 96 ≤ length out.old }
     ensures { Replies (weighed_code w) (answer_reply (weighed_code w)) (weighed_moment w) result out.old out.new }
 {
-    let mut r = answer_with(operations::hold_code(w), out);
+    let mut r = answer_operation(operations::weighed_answer(w), out);
     r.moment = total::weighed_moment(w);
     r
 }
@@ -130,16 +140,16 @@ fn reply_to(c: Condition, line: &[u8], r: Request, out: &mut [u8]) -> Replied
 {
     let sums = c.sums;
     match r {
-        Request::ShipLine(s) => answer_with(operations::ship_code(s), out),
-        Request::ColumnLine(k) => answer_with(operations::column_code(c, k), out),
-        Request::LoadLine(l) => answer_with(operations::load_code(l), out),
+        Request::ShipLine(s) => answer_operation(operations::ship_answer(s), out),
+        Request::ColumnLine(k) => answer_operation(operations::column_answer(c, k), out),
+        Request::LoadLine(l) => answer_operation(operations::load_answer(l), out),
         Request::HoldLine(n, h) => answer_weighed(operations::hold_answer(n, h), out),
-        Request::DropLine(n) => answer_with(operations::drop_code(c, n), out),
+        Request::DropLine(n) => answer_operation(operations::drop_answer(c, n), out),
         Request::JudgeLine => give_verdict(c, out),
         Request::ClearLine => answer_with(0, out),
         Request::ShowLine => show_form(line, out),
         Request::TotalLine => show_total(c.total, out),
-        Request::WeighingLine(w) => answer_with(operations::weighing_code(sums, w), out),
+        Request::WeighingLine(w) => answer_operation(operations::weighing_answer(sums, w), out),
     }
 }
 

@@ -4,5 +4,5 @@ use Rattle.panel.proofs.answer_weighed.Goals as goal
 
 pub returns : goal.returns
 returns c =
-    let a = rw c.hold_code.ensures at c.answer_with-r.ensures in
+    let a = rw c.weighed_answer.ensures at c.answer_operation-r.ensures in
     record { coded = a.coded; long = a.long; moment = c.weighed_moment.ensures; written = a.written }

@@ -9,16 +9,16 @@ use Rattle.panel.proofs.reply_to.Goals as goal
 pub returns-in-ShipLine : goal.returns-in-ShipLine
 unfolding outcome_of
 returns-in-ShipLine c =
-    rw (c.in-ShipLine.is, ← c.ship_code.ensures c.args.c) c.answer_with.ensures
+    rw (c.in-ShipLine.is, ← c.ship_answer.ensures c.args.c) c.answer_operation.ensures
 
 pub returns-in-ColumnLine : goal.returns-in-ColumnLine
 unfolding outcome_of
-returns-in-ColumnLine c = rw (c.in-ColumnLine.is, ← c.column_code.ensures) c.answer_with-in-ColumnLine.ensures
+returns-in-ColumnLine c = rw (c.in-ColumnLine.is, ← c.column_answer.ensures) c.answer_operation-in-ColumnLine.ensures
 
 pub returns-in-LoadLine : goal.returns-in-LoadLine
 unfolding outcome_of
 returns-in-LoadLine c =
-    rw (c.in-LoadLine.is, ← c.load_code.ensures c.args.c) c.answer_with-in-LoadLine.ensures
+    rw (c.in-LoadLine.is, ← c.load_answer.ensures c.args.c) c.answer_operation-in-LoadLine.ensures
 
 pub returns-in-HoldLine : goal.returns-in-HoldLine
 unfolding outcome_of
@@ -30,7 +30,7 @@ returns-in-HoldLine c =
 pub returns-in-DropLine : goal.returns-in-DropLine
 unfolding outcome_of
 returns-in-DropLine c =
-    rw (c.in-DropLine.is, ← c.drop_code.ensures) c.answer_with-in-DropLine.ensures
+    rw (c.in-DropLine.is, ← c.drop_answer.ensures) c.answer_operation-in-DropLine.ensures
 
 pub returns-in-JudgeLine : goal.returns-in-JudgeLine
 unfolding outcome_of
@@ -38,7 +38,7 @@ returns-in-JudgeLine c = rw c.in-JudgeLine.is c.give_verdict.ensures
 
 pub returns-in-ClearLine : goal.returns-in-ClearLine
 unfolding outcome_of
-returns-in-ClearLine c = rw c.in-ClearLine.is c.answer_with-in-ClearLine.ensures
+returns-in-ClearLine c = rw c.in-ClearLine.is c.answer_with.ensures
 
 pub show_form-requires : goal.show_form-requires
 show_form-requires c =
@@ -56,5 +56,5 @@ returns-in-TotalLine c = rw c.in-TotalLine.is c.show_total.ensures
 pub returns-in-WeighingLine : goal.returns-in-WeighingLine
 unfolding outcome_of
 returns-in-WeighingLine c =
-    let code = c.weighing_code.ensures c.args.c refl in
-    rw (c.in-WeighingLine.is, ← code) c.answer_with-in-WeighingLine.ensures
+    let code = c.weighing_answer.ensures c.args.c refl in
+    rw (c.in-WeighingLine.is, ← code) c.answer_operation-in-WeighingLine.ensures
