@@ -14,6 +14,7 @@ use lib.IntN.{ℤ, pos, negsuc}
 use mir.Syntax.{w64}
 use mir.Val.{SFits, to_z, of_z}
 use mir.Facts.{to_z-of_z}
+use borrow.Author.Gap.{read_sfits}
 use Rattle.sign.specs.Sign.{plus, minus}
 use Rattle.reply.specs.Written.{over, into, digits, decimal, figure}
 
@@ -52,6 +53,9 @@ digits_more zero n e p = absurd (e refl)
 digits_more (suc k) n e p =
     let a : suc k - 1 ≡ k = omega arith in
     rw (le-ltb n 10 p, a)
+
+pub length_more : (k n : ℕ) → (k ≡ 0 → ⊥) → 10 ≤ n → length (digits k n) ≡ length (digits (k - 1) (n / 10)) + 1
+length_more k n e p = ap length (digits_more k n e p) ∙ length-append (digits (k - 1) (n / 10)) ((48 + n % 10) ∷ [])
 
 pub length_digits : (k n : ℕ) → length (digits k n) ≤ k
 unfolding digits
@@ -146,6 +150,14 @@ pub short_figure : (z : ℤ) → Short z → length (figure z) ≤ 20
 unfolding figure
 short_figure (pos n) s = omega (arith, short_digits 20 n 18 (omega (arith, s.above)))
 short_figure (negsuc n) s = omega (arith, short_digits 20 (suc n) 18 (omega (arith, s.below)))
+
+-- the machine reads a figure back from its bits
+pub read_short : (z : ℤ) → length (figure (to_z w64 (of_z w64 z))) ≤ 20
+read_short z = short_figure (to_z w64 (of_z w64 z)) (short (to_z w64 (of_z w64 z)) (read_sfits w64 (of_z w64 z)))
+
+-- UPPER has at most four digits
+pub short_four : (n : ℕ) → n ≤ 4000 → length (decimal n) ≤ 4
+short_four n h = short_digits 20 n 3 (omega arith)
 
 -- how long a verdict's figures are; the machine reads GM and DIFF back from their bits
 pub record Lengths (gm diff : ℤ) (upper area : ℕ) : Type 0 where

@@ -16,7 +16,9 @@ fn put(out: &mut [u8], w: &[u8]) -> usize
     w.len()
 }
 
-// The decimal digits of n, of which there are at most k, over the front of a buffer.
+// The decimal digits of n, of which there are at most k, over the front of a buffer. Not by `write!`, of which only a String's bytes can be proved, and that
+// takes heap.
+#[tactic(auto, using(crate::proofs::Writing::over_none, crate::proofs::Writing::digits_none, crate::proofs::Writing::digits_one, crate::proofs::Writing::digits_more, crate::proofs::Writing::length_more, crate::proofs::Writing::over_one, crate::proofs::Writing::over_snoc))]
 fn put_digits(out: &mut [u8], n: u64, k: usize) -> usize
     requires { length (digits k n) ≤ length out.old }
     ensures value { result ≡ length (digits k n) }
@@ -42,7 +44,9 @@ fn put_decimal(out: &mut [u8], n: u64) -> usize
     put_digits(out, n, 20)
 }
 
-// A text behind the `at` bytes that are written already: it gets the part of the buffer that starts there.
+// A text behind the `at` bytes that are written already: it gets the part of the buffer that starts there. Buffer and place go side by side: a struct that
+// holds a `&mut` has to say in each contract besides that it still holds the same one.
+#[tactic(auto, using(crate::proofs::Writing::lent))]
 pub fn append(out: &mut [u8], at: usize, w: &[u8]) -> usize
     requires { at + length w.now ≤ length out.old }
     ensures value { result ≡ at + length w.now }
@@ -52,6 +56,7 @@ pub fn append(out: &mut [u8], at: usize, w: &[u8]) -> usize
 }
 
 // A figure that is not below zero, likewise.
+#[tactic(auto, using(crate::proofs::Writing::lent))]
 fn append_decimal(out: &mut [u8], at: usize, n: u64) -> usize
     requires { at + length (decimal n) ≤ length out.old }
     ensures value { result ≡ at + length (decimal n) }
@@ -71,12 +76,13 @@ fn append_code(out: &mut [u8], at: usize, code: u8) -> usize
 }
 
 // A figure, likewise; below zero it carries a minus sign.
+#[tactic(auto, using(crate::proofs::Writing::into_into, crate::proofs::Writing::figure_above, crate::proofs::Writing::figure_below))]
 fn append_figure(out: &mut [u8], at: usize, z: i64) -> usize
     requires { at + length (figure z) ≤ length out.old }
     ensures value { result ≡ at + length (figure z) }
     ensures out_after { out.new ≡ into at (figure z) out.old }
 {
-    if sign::is_below(z) {
+    if z < 0 {
         let a = append(out, at, b"-");
         append_decimal(out, a, sign::below_zero(z))
     } else {
@@ -95,7 +101,7 @@ fn coded(out: &mut [u8], head: &[u8], code: u8) -> usize
     append(out, b, b")\n")
 }
 
-// `(answer CC)`.
+// `(answer CC)`. Any buffer of 96 bytes or more may be lent, here and below: an array of 96 would ask more of who has another.
 pub fn answer(out: &mut [u8], code: u8) -> usize
     requires { 96 ≤ length out.old }
     ensures value { result ≡ length (answer_reply code) }
@@ -104,7 +110,7 @@ pub fn answer(out: &mut [u8], code: u8) -> usize
     coded(out, b"(answer ", code)
 }
 
-// `(verdict CC)`.
+// `(verdict CC)`, the reply of another name, with the same code behind it.
 pub fn refusal(out: &mut [u8], code: u8) -> usize
     requires { 96 ≤ length out.old }
     ensures value { result ≡ length (refusal_reply code) }
@@ -114,6 +120,7 @@ pub fn refusal(out: &mut [u8], code: u8) -> usize
 }
 
 // A space and a figure behind what is written.
+#[tactic(auto, using(crate::proofs::Writing::into_into))]
 fn append_field(out: &mut [u8], at: usize, z: i64) -> usize
     requires { at + 1 + length (figure z) ≤ length out.old }
     ensures value { result ≡ at + 1 + length (figure z) }
@@ -123,7 +130,8 @@ fn append_field(out: &mut [u8], at: usize, z: i64) -> usize
     append_figure(out, a, z)
 }
 
-// A space and a figure that is not below zero, behind what is written.
+// A space and a figure that is not below zero, behind what is written: it may pass the greatest that has a sign.
+#[tactic(auto, using(crate::proofs::Writing::into_into))]
 fn append_count(out: &mut [u8], at: usize, n: u64) -> usize
     requires { at + 1 + length (decimal n) ≤ length out.old }
     ensures value { result ≡ at + 1 + length (decimal n) }
@@ -134,6 +142,7 @@ fn append_count(out: &mut [u8], at: usize, n: u64) -> usize
 }
 
 // `(verdict CC GM DIFF UPPER AREA)`.
+#[tactic(auto, unfolding(crate::specs::Replies::verdict_reply), using(crate::proofs::Writing::over_part, crate::proofs::Writing::read_short, crate::proofs::Writing::short_four, crate::proofs::Writing::length_digits))]
 pub fn verdict(out: &mut [u8], code: u8, gm: i64, diff: i64, upper: u64, area: u64) -> usize
     requires { (96 ≤ length out.old) × (upper ≤ 4000) }
     ensures value { result ≡ length (verdict_reply code gm diff upper area) }
@@ -149,6 +158,7 @@ pub fn verdict(out: &mut [u8], code: u8, gm: i64, diff: i64, upper: u64, area: u
 }
 
 // `(answer 00 W)`.
+#[tactic(auto, unfolding(crate::specs::Replies::total_reply), using(crate::proofs::Writing::over_part, crate::proofs::Writing::length_digits))]
 pub fn total(out: &mut [u8], w: u64) -> usize
     requires { 96 ≤ length out.old }
     ensures value { result ≡ length (total_reply w) }
