@@ -19,7 +19,7 @@ const LONGEST_KEPT: usize = 2001;
 
 // ---- lines of a block
 
-// How many bytes stand before the first byte 10.
+// How many bytes stand before the first byte 10: like `text::run_length` one line of the library's own words, which a function over a test would only rename.
 fn bytes_before(s: &[u8]) -> usize
     ensures value { result ≡ prefix_len (λ b. not (b == 10)) s.now }
     ensures upper_bound { result ≤ length s.now }
@@ -53,7 +53,7 @@ pub fn keep(line: &mut [u8], used: usize, piece: &[u8]) -> usize
 
 // ---- the limits
 
-// Document 01's limits of lines and bytes.
+// Document 01's limits of lines and bytes: functions, whose contracts say that they are the paper's, which a `const` cannot.
 pub fn most_lines() -> u64
     ensures { result ≡ most_lines }
 {
