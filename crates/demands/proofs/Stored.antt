@@ -9,9 +9,8 @@ use native.Mathlib.Decide.{dec_le}
 use borrow.Author.Tests.{lt-ltb}
 use Rattle.whole.specs.Lists.{is_one_of}
 use Rattle.record.specs.declared.Weighing.TheVariants.{Weight, Weighed, Unweigh}
-use Rattle.stability.specs.declared.Judgement.{Judgement}
-use Rattle.stability.specs.declared.Judgement.TheVariants.{Passed, ShortOfGm, ShortAtHeel, ShortBeyond, ShortOfArea}
-use Rattle.stability.specs.Verdict.{judgement_code, verdict_of}
+use Rattle.stability.specs.declared.Shortfall.TheVariants.{ShortOfGm, ShortAtHeel, ShortBeyond, ShortOfArea}
+use Rattle.stability.specs.Verdict.{Judgement, judgement_code, verdict_of}
 use Rattle.text.specs.Token.{tokens}
 use Rattle.std.specs.Prelude.{Option, Some, None, Ok, Err}
 use Rattle.line_codes.specs.Line.{Reading, reading_of}
@@ -93,11 +92,11 @@ module _ (c : Condition) (line : List ℕ) (lent : ℕ) where
 -- no verdict has a code of the refusals
 no_verdict : (j : Judgement) → is_one_of refusals (judgement_code j) ≡ true → ⊥
 unfolding is_one_of
-no_verdict Passed e = let z : ◌≡◌ {A = ℕ} 0 1 = cc in omega arith
-no_verdict ShortOfGm e = let z : ◌≡◌ {A = ℕ} 0 1 = cc in omega arith
-no_verdict ShortAtHeel e = let z : ◌≡◌ {A = ℕ} 0 1 = cc in omega arith
-no_verdict ShortBeyond e = let z : ◌≡◌ {A = ℕ} 0 1 = cc in omega arith
-no_verdict ShortOfArea e = let z : ◌≡◌ {A = ℕ} 0 1 = cc in omega arith
+no_verdict (Ok u) e = let z : ◌≡◌ {A = ℕ} 0 1 = cc in omega arith
+no_verdict (Err ShortOfGm) e = let z : ◌≡◌ {A = ℕ} 0 1 = cc in omega arith
+no_verdict (Err ShortAtHeel) e = let z : ◌≡◌ {A = ℕ} 0 1 = cc in omega arith
+no_verdict (Err ShortBeyond) e = let z : ◌≡◌ {A = ℕ} 0 1 = cc in omega arith
+no_verdict (Err ShortOfArea) e = let z : ◌≡◌ {A = ℕ} 0 1 = cc in omega arith
 
 judge_shows : (c : Condition) → is_one_of refusals (verdict_given c (judged_of c)).code ≡ true → RefusalShown (verdict_given c (judged_of c)).code (verdict_given c (judged_of c)).reply
 judge_shows c =

@@ -16,9 +16,8 @@ use Rattle.record.specs.Filler.{no_column}
 use Rattle.columns.specs.Columns.{in_order}
 use Rattle.std.specs.Prelude.{None, Ok, Err}
 use Rattle.columns.specs.Search.{columns_around}
-use Rattle.stability.specs.declared.Judgement.{Judgement}
-use Rattle.stability.specs.declared.Judgement.TheVariants.{Passed, ShortOfGm, ShortAtHeel, ShortBeyond, ShortOfArea}
-use Rattle.stability.specs.Verdict.{judgement_code, verdict_of}
+use Rattle.stability.specs.declared.Shortfall.TheVariants.{ShortOfGm, ShortAtHeel, ShortBeyond, ShortOfArea}
+use Rattle.stability.specs.Verdict.{Judgement, judgement_code, verdict_of}
 use Rattle.columns.proofs.Standing.{below_outside, above_outside}
 use Rattle.condition.specs.declared.Condition.{Condition}
 use Rattle.judging.specs.declared.NotJudged.{NotJudged}
@@ -30,11 +29,11 @@ use Rattle.judging.specs.Codes.{JudgeCodes, CodesOfJudge}
 use Rattle.judging.proofs.Judging.{LimitsMet, ranges_sound, ready_around, ready_judged}
 
 judgement_other : (j : Judgement) (n : ℕ) → 30 ≤ n → n ≤ 34 → judgement_code j ≡ n → ⊥
-judgement_other Passed n p q e = omega arith
-judgement_other ShortOfGm n p q e = omega arith
-judgement_other ShortAtHeel n p q e = omega arith
-judgement_other ShortBeyond n p q e = omega arith
-judgement_other ShortOfArea n p q e = omega arith
+judgement_other (Ok u) n p q e = omega arith
+judgement_other (Err ShortOfGm) n p q e = omega arith
+judgement_other (Err ShortAtHeel) n p q e = omega arith
+judgement_other (Err ShortBeyond) n p q e = omega arith
+judgement_other (Err ShortOfArea) n p q e = omega arith
 
 -- D below the first or above the last of two columns or more has none around it
 below_first : (d : ℕ) (ks : List Column) → in_order ks ≡ true → 2 ≤ length ks → d < (get_or ks 0 no_column).d → columns_around d ks ≡ None

@@ -4,13 +4,13 @@
 ghost use Rattle.std.specs.Prelude.{◌≡◌, ◌&&◌, Some, length, leb};
 ghost use Rattle.record.specs.Held.{held};
 ghost use Rattle.columns.specs.Columns.{in_order};
-ghost use Rattle.stability.specs.Verdict.{judgement_code};
+ghost use Rattle.stability.specs.Verdict.{shortfall_code, judgement_code};
 ghost use Rattle.judging.specs.Judge.{refusal_code, judged_of, judged_at, Between};
 
 use arms::Basis;
 use condition::Condition;
 use record::{Column, Columns};
-use stability::{Judgement, Verdict};
+use stability::{Shortfall, Verdict};
 
 // The greatest weight moment that judge takes, in kg·m.
 const GREATEST_WEIGHT: u64 = 1000000000;
@@ -91,15 +91,24 @@ pub fn refusal_code(r: NotJudged) -> u8
     }
 }
 
-// The paper's code for each judgement.
-pub fn judgement_code(j: Judgement) -> u8
+// The paper's code for each test that fails.
+fn shortfall_code(why: Shortfall) -> u8
+    ensures { result ≡ shortfall_code why }
+{
+    match why {
+        Shortfall::ShortOfGm => 40,
+        Shortfall::ShortAtHeel => 41,
+        Shortfall::ShortBeyond => 42,
+        Shortfall::ShortOfArea => 43,
+    }
+}
+
+// The paper's code for a judgement.
+pub fn judgement_code(j: Result<(), Shortfall>) -> u8
     ensures { result ≡ judgement_code j }
 {
     match j {
-        Judgement::Passed => 0,
-        Judgement::ShortOfGm => 40,
-        Judgement::ShortAtHeel => 41,
-        Judgement::ShortBeyond => 42,
-        Judgement::ShortOfArea => 43,
+        Ok(()) => 0,
+        Err(why) => shortfall_code(why),
     }
 }

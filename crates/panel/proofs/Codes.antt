@@ -7,9 +7,8 @@ use lib.Dec.{ltb}
 use Rattle.whole.specs.Lists.{all, is_one_of}
 use Rattle.whole.proofs.Lists.{among}
 use Rattle.record.specs.declared.Weighing.TheVariants.{Weight, Weighed, Unweigh}
-use Rattle.stability.specs.declared.Judgement.{Judgement}
-use Rattle.stability.specs.declared.Judgement.TheVariants.{Passed, ShortOfGm, ShortAtHeel, ShortBeyond, ShortOfArea}
-use Rattle.stability.specs.Verdict.{judgement_code, verdict_of}
+use Rattle.stability.specs.declared.Shortfall.TheVariants.{ShortOfGm, ShortAtHeel, ShortBeyond, ShortOfArea}
+use Rattle.stability.specs.Verdict.{Judgement, judgement_code, verdict_of}
 use Rattle.std.specs.Prelude.{Option, Some, None, Ok, Err}
 use Rattle.line_codes.specs.declared.Fault.TheVariants.{TooLong, BadByte, NotOneForm, BadNumber, NoShape}
 use Rattle.text.specs.Token.{Token, tokens}
@@ -67,11 +66,11 @@ changed o = record { code = o.code; after = o.after }
 module _ (c : Condition) where
   judgement_listed : (j : Judgement) → is_one_of (codes_of JudgeLine) (judgement_code j) ≡ true
   unfolding is_one_of
-  judgement_listed Passed = refl
-  judgement_listed ShortOfGm = refl
-  judgement_listed ShortAtHeel = refl
-  judgement_listed ShortBeyond = refl
-  judgement_listed ShortOfArea = refl
+  judgement_listed (Ok u) = refl
+  judgement_listed (Err ShortOfGm) = refl
+  judgement_listed (Err ShortAtHeel) = refl
+  judgement_listed (Err ShortBeyond) = refl
+  judgement_listed (Err ShortOfArea) = refl
 
   right_refusal : (n : ℕ) → is_one_of refusals n ≡ true → is_one_of (codes_of JudgeLine) n ≡ true
   unfolding is_one_of all

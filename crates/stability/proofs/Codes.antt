@@ -16,11 +16,11 @@ use Rattle.whole.proofs.Lists.{and_true}
 use Rattle.sign.proofs.Signs.{lt_under, nlt_most}
 use Rattle.record.specs.declared.Ship.{Ship}
 use Rattle.arms.specs.declared.Basis.{Basis}
-use Rattle.stability.specs.declared.Judgement.{Judgement}
-use Rattle.stability.specs.declared.Judgement.TheVariants.{Passed, ShortOfGm, ShortAtHeel, ShortBeyond, ShortOfArea}
+use Rattle.std.specs.Prelude.{Ok, Err}
+use Rattle.stability.specs.declared.Shortfall.TheVariants.{ShortOfGm, ShortAtHeel, ShortBeyond, ShortOfArea}
 use Rattle.stability.specs.declared.Verdict.{Verdict}
 use Rattle.arms.specs.Angles.{angle}
-use Rattle.stability.specs.Verdict.{heel_limit, diff_at, upper, is_below, fails_at, fails_among, fails_beyond, judged_by, judgement_code, verdict_of}
+use Rattle.stability.specs.Verdict.{heel_limit, diff_at, upper, is_below, fails_at, fails_among, fails_beyond, Judgement, judged_by, judgement_code, verdict_of}
 use Rattle.arms.specs.Arms.{gm, diffs}
 use Rattle.area.specs.Area.{area}
 use Rattle.stability.specs.Demand.{SomeAngleFails, one_of_ten, at_upper, NoneApplies, Codes, OneOfFive, is00, is40, is41, is42, is43}
@@ -126,15 +126,15 @@ module _ (s : Ship) (b : Basis) where
 -- ---- the code tells the judgement
 decoded : ℕ → Judgement
 decoded n =
-    cond (eqb n 40) ShortOfGm (cond (eqb n 41) ShortAtHeel (cond (eqb n 42) ShortBeyond (cond (eqb n 43) ShortOfArea Passed)))
+    cond (eqb n 40) (Err ShortOfGm) (cond (eqb n 41) (Err ShortAtHeel) (cond (eqb n 42) (Err ShortBeyond) (cond (eqb n 43) (Err ShortOfArea) (Ok tt))))
 
 decodes : (v : Judgement) → decoded (judgement_code v) ≡ v
 unfolding decoded
-decodes Passed = refl
-decodes ShortOfGm = refl
-decodes ShortAtHeel = refl
-decodes ShortBeyond = refl
-decodes ShortOfArea = refl
+decodes (Ok tt) = refl
+decodes (Err ShortOfGm) = refl
+decodes (Err ShortAtHeel) = refl
+decodes (Err ShortBeyond) = refl
+decodes (Err ShortOfArea) = refl
 
 same_code : (v w : Judgement) → judgement_code v ≡ judgement_code w → v ≡ w
 same_code v w e = sym (decodes v) ∙ ap decoded e ∙ decodes w
@@ -153,11 +153,11 @@ module _ (s : Ship) (b : Basis) where
 
   -- what the figures say at each judgement
   abbrev Shows : Judgement → Type 0
-  Shows Passed = None × (429718347 ≤ v.area)
-  Shows ShortOfGm = Under v.gm (pos 300000)
-  Shows ShortAtHeel = AtMost (pos 300000) v.gm × Under v.diff (pos 0)
-  Shows ShortBeyond = AtMost (pos 300000) v.gm × AtMost (pos 0) v.diff × Fails s b
-  Shows ShortOfArea = None × (v.area < 429718347)
+  Shows (Ok tt) = None × (429718347 ≤ v.area)
+  Shows (Err ShortOfGm) = Under v.gm (pos 300000)
+  Shows (Err ShortAtHeel) = AtMost (pos 300000) v.gm × Under v.diff (pos 0)
+  Shows (Err ShortBeyond) = AtMost (pos 300000) v.gm × AtMost (pos 0) v.diff × Fails s b
+  Shows (Err ShortOfArea) = None × (v.area < 429718347)
 
   none : lt_z (gm b) (pos 300000) ≡ false → is_below (diff_at (diffs b) (heel_limit s)) ≡ false → fails_beyond (heel_limit s) (upper s.flood (diffs b)) (diffs b) ≡ false → None
   unfolding verdict_of
@@ -168,7 +168,7 @@ module _ (s : Ship) (b : Basis) where
         beyond = λ f. clash (sym (fails_true s b f) ∙ e₃);
       }
 
-  cases : (t₁ t₂ t₃ t₄ : Bool) → lt_z (gm b) (pos 300000) ≡ t₁ → is_below (diff_at (diffs b) (heel_limit s)) ≡ t₂ → fails_beyond (heel_limit s) (upper s.flood (diffs b)) (diffs b) ≡ t₃ → ltb (area (diffs b) (upper s.flood (diffs b))) 429718347 ≡ t₄ → Shows (cond t₁ ShortOfGm (cond t₂ ShortAtHeel (cond t₃ ShortBeyond (cond t₄ ShortOfArea Passed))))
+  cases : (t₁ t₂ t₃ t₄ : Bool) → lt_z (gm b) (pos 300000) ≡ t₁ → is_below (diff_at (diffs b) (heel_limit s)) ≡ t₂ → fails_beyond (heel_limit s) (upper s.flood (diffs b)) (diffs b) ≡ t₃ → ltb (area (diffs b) (upper s.flood (diffs b))) 429718347 ≡ t₄ → Shows (cond t₁ (Err ShortOfGm) (cond t₂ (Err ShortAtHeel) (cond t₃ (Err ShortBeyond) (cond t₄ (Err ShortOfArea) (Ok tt)))))
   unfolding verdict_of
   cases true t₂ t₃ t₄ e₁ e₂ e₃ e₄ = lt_under (gm b) (pos 300000) e₁
   cases false true t₃ t₄ e₁ e₂ e₃ e₄ = (nlt_most (gm b) (pos 300000) e₁, lt_under (diff_at (diffs b) (heel_limit s)) (pos 0) e₂)
@@ -189,15 +189,15 @@ module _ (s : Ship) (b : Basis) where
 
   given : (w : Judgement) → Shows w → v.judgement ≡ w
   unfolding verdict_of judged_by
-  given ShortOfGm g = rw (under_true (gm b) (pos 300000) g) refl
-  given ShortAtHeel (g, d) = rw (most_false (gm b) (pos 300000) g, under_true (diff_at (diffs b) (heel_limit s)) (pos 0) d) refl
-  given ShortBeyond (g, d, f) =
+  given (Err ShortOfGm) g = rw (under_true (gm b) (pos 300000) g) refl
+  given (Err ShortAtHeel) (g, d) = rw (most_false (gm b) (pos 300000) g, under_true (diff_at (diffs b) (heel_limit s)) (pos 0) d) refl
+  given (Err ShortBeyond) (g, d, f) =
       let t = passes g d in
       rw (t.0, t.1, fails_true s b f) refl
-  given ShortOfArea (n, a) =
+  given (Err ShortOfArea) (n, a) =
       let t = passes n.gm n.at_heel in
       rw (t.0, t.1, fails_false s b n.beyond, lt-ltb (area (diffs b) (upper s.flood (diffs b))) 429718347 a) refl
-  given Passed (n, a) =
+  given (Ok tt) (n, a) =
       let t = passes n.gm n.at_heel in
       rw (t.0, t.1, fails_false s b n.beyond, le-ltb (area (diffs b) (upper s.flood (diffs b))) 429718347 a) refl
 
@@ -207,19 +207,19 @@ module _ (s : Ship) (b : Basis) where
   pub codes : Codes s b (verdict_of s b) (heel_limit s) (ten_of b) (diff_at (diffs b))
   codes =
       record {
-        is40 = exactly ShortOfGm;
-        is41 = exactly ShortAtHeel;
-        is42 = exactly ShortBeyond;
-        is43 = exactly ShortOfArea;
-        is00 = exactly Passed;
+        is40 = exactly (Err ShortOfGm);
+        is41 = exactly (Err ShortAtHeel);
+        is42 = exactly (Err ShortBeyond);
+        is43 = exactly (Err ShortOfArea);
+        is00 = exactly (Ok tt);
       }
 
   one_of : (w : Judgement) → v.judgement ≡ w → OneOfFive s b (verdict_of s b) (heel_limit s) (ten_of b) (diff_at (diffs b))
-  one_of Passed e = is00 (ap judgement_code e)
-  one_of ShortOfGm e = is40 (ap judgement_code e)
-  one_of ShortAtHeel e = is41 (ap judgement_code e)
-  one_of ShortBeyond e = is42 (ap judgement_code e)
-  one_of ShortOfArea e = is43 (ap judgement_code e)
+  one_of (Ok tt) e = is00 (ap judgement_code e)
+  one_of (Err ShortOfGm) e = is40 (ap judgement_code e)
+  one_of (Err ShortAtHeel) e = is41 (ap judgement_code e)
+  one_of (Err ShortBeyond) e = is42 (ap judgement_code e)
+  one_of (Err ShortOfArea) e = is43 (ap judgement_code e)
 
   pub one_of_five : OneOfFive s b (verdict_of s b) (heel_limit s) (ten_of b) (diff_at (diffs b))
   one_of_five = one_of v.judgement refl

@@ -15,10 +15,10 @@ use Rattle.whole.specs.Frac.{◌≺◌}
 use Rattle.sign.proofs.Signs.{lt_under, nlt_most}
 use Rattle.record.specs.declared.Ship.{Ship}
 use Rattle.arms.specs.declared.Basis.{Basis}
-use Rattle.stability.specs.declared.Judgement.{Judgement}
-use Rattle.stability.specs.declared.Judgement.TheVariants.{Passed, ShortOfGm, ShortAtHeel, ShortBeyond, ShortOfArea}
+use Rattle.std.specs.Prelude.{Ok, Err}
+use Rattle.stability.specs.declared.Shortfall.TheVariants.{ShortOfGm, ShortAtHeel, ShortBeyond, ShortOfArea}
 use Rattle.arms.specs.Angles.{angle, width}
-use Rattle.stability.specs.Verdict.{heel_limit, Stretch, diff_at, upper, is_below, fails_among, fails_beyond, judged_by, judgement_code, verdict_of}
+use Rattle.stability.specs.Verdict.{heel_limit, Stretch, diff_at, upper, is_below, fails_among, fails_beyond, Judgement, judged_by, judgement_code, verdict_of}
 use Rattle.arms.specs.Arms.{gm, diffs, plus_at, minus_at}
 use Rattle.area.specs.Area.{area}
 use Rattle.arms.specs.Exact.{den, exact_kn, exact_taken, OnStretch, exact_at, NotBelow, LessThan, NotUnder, LessOver, ExactGMBelow}
@@ -208,13 +208,13 @@ module _ (s : Ship) (b : Basis) (jd : Judgeable b) where
 
   -- what each judgement says
   abbrev Means : Judgement → Type 0
-  Means Passed = PassedMeans s b (verdict_of s b) (heel_limit s) (ten_of b) (diff_at (diffs b))
-  Means ShortOfGm = ExactGMBelow b 300000
-  Means ShortAtHeel = ShortAtHeelMeans s b (verdict_of s b) (heel_limit s) (ten_of b) (diff_at (diffs b))
-  Means ShortBeyond = ShortBeyondMeans s b (verdict_of s b) (heel_limit s) (ten_of b) (diff_at (diffs b))
-  Means ShortOfArea = exact_area b (verdict_of s b).upper ≺ 429718347 + 12009
+  Means (Ok tt) = PassedMeans s b (verdict_of s b) (heel_limit s) (ten_of b) (diff_at (diffs b))
+  Means (Err ShortOfGm) = ExactGMBelow b 300000
+  Means (Err ShortAtHeel) = ShortAtHeelMeans s b (verdict_of s b) (heel_limit s) (ten_of b) (diff_at (diffs b))
+  Means (Err ShortBeyond) = ShortBeyondMeans s b (verdict_of s b) (heel_limit s) (ten_of b) (diff_at (diffs b))
+  Means (Err ShortOfArea) = exact_area b (verdict_of s b).upper ≺ 429718347 + 12009
 
-  cases : (t₁ t₂ t₃ t₄ : Bool) → lt_z (gm b) (pos 300000) ≡ t₁ → is_below (diff_at (diffs b) (heel_limit s)) ≡ t₂ → fails_beyond (heel_limit s) (upper s.flood (diffs b)) (diffs b) ≡ t₃ → ltb (area (diffs b) (upper s.flood (diffs b))) 429718347 ≡ t₄ → Means (cond t₁ ShortOfGm (cond t₂ ShortAtHeel (cond t₃ ShortBeyond (cond t₄ ShortOfArea Passed))))
+  cases : (t₁ t₂ t₃ t₄ : Bool) → lt_z (gm b) (pos 300000) ≡ t₁ → is_below (diff_at (diffs b) (heel_limit s)) ≡ t₂ → fails_beyond (heel_limit s) (upper s.flood (diffs b)) (diffs b) ≡ t₃ → ltb (area (diffs b) (upper s.flood (diffs b))) 429718347 ≡ t₄ → Means (cond t₁ (Err ShortOfGm) (cond t₂ (Err ShortAtHeel) (cond t₃ (Err ShortBeyond) (cond t₄ (Err ShortOfArea) (Ok tt)))))
   cases true t₂ t₃ t₄ e₁ e₂ e₃ e₄ = gm_below_lem b jd (lt_under (gm b) (pos 300000) e₁)
   cases false true t₃ t₄ e₁ e₂ e₃ e₄ = short_at_heel e₂
   cases false false true t₄ e₁ e₂ e₃ e₄ = short_beyond e₃
@@ -253,11 +253,11 @@ demand3 s b jd =
             heel_within = (heel_is s).most;
             upper_within = upper_le s b;
             one_of = one_of_five s b;
-            forty_exactly = (means_at s b jd ShortOfGm, λ k. (codes s b).is40.1 (gm_shows s b jd k));
-            at00 = means_at s b jd Passed;
-            at41 = means_at s b jd ShortAtHeel;
-            at42 = means_at s b jd ShortBeyond;
-            at43 = means_at s b jd ShortOfArea;
+            forty_exactly = (means_at s b jd (Err ShortOfGm), λ k. (codes s b).is40.1 (gm_shows s b jd k));
+            at00 = means_at s b jd (Ok tt);
+            at41 = means_at s b jd (Err ShortAtHeel);
+            at42 = means_at s b jd (Err ShortBeyond);
+            at43 = means_at s b jd (Err ShortOfArea);
           };
     }
 

@@ -1,5 +1,5 @@
 -- Document 01, the verdict: DIFF between the ten angles, UPPER, and codes 40 to 43 in their order.
-use Rattle.std.specs.Prelude.{Bool, false, cond, ◌&&◌, ◌||◌, List, [], ◌∷◌, ℕ, zero, suc, ◌-◌, ◌≤◌, ◌<◌, min, leb, ltb, length, get_or, ℤ, pos}
+use Rattle.std.specs.Prelude.{Bool, false, cond, ◌&&◌, ◌||◌, List, [], ◌∷◌, ℕ, zero, suc, ◌-◌, ◌≤◌, ◌<◌, min, leb, ltb, length, get_or, ℤ, pos, Result, Ok, Err}
 use Rattle.std.specs.Int.Signed.{lt_z}
 use Rattle.sign.specs.Sign.{AtMost, Under}
 use Rattle.whole.specs.Line.{line_at}
@@ -7,8 +7,8 @@ use Rattle.record.specs.declared.Rule.{Rule}
 use Rattle.record.specs.declared.Rule.TheVariants.{New, Old}
 use Rattle.record.specs.declared.Ship.{Ship}
 use Rattle.arms.specs.declared.Basis.{Basis}
-use Rattle.stability.specs.declared.Judgement.{Judgement}
-use Rattle.stability.specs.declared.Judgement.TheVariants.{Passed, ShortOfGm, ShortAtHeel, ShortBeyond, ShortOfArea}
+use Rattle.stability.specs.declared.Shortfall.{Shortfall}
+use Rattle.stability.specs.declared.Shortfall.TheVariants.{ShortOfGm, ShortAtHeel, ShortBeyond, ShortOfArea}
 use Rattle.stability.specs.declared.Verdict.{Verdict}
 use Rattle.arms.specs.Angles.{angle, width}
 use Rattle.arms.specs.Arms.{gm, diffs}
@@ -97,21 +97,28 @@ least_gm = 300000
 abbrev pub least_area : ℕ
 least_area = 429718347
 
+-- what the tests find: she passes, or the first that fails
+abbrev pub Judgement : Type 0
+Judgement = Result (Unit {0}) Shortfall
+
 -- the first test that fails: of GM, of DIFF at the heel limit, at the angles of 42, and of AREA
 unfoldable pub judged_by : (gm diff : ℤ) → (beyond : Bool) → (area : ℕ) → Judgement
 judged_by gm diff beyond area =
-    cond (lt_z gm (pos least_gm)) ShortOfGm
-    (cond (is_below diff) ShortAtHeel
-    (cond beyond ShortBeyond
-    (cond (ltb area least_area) ShortOfArea Passed)))
+    cond (lt_z gm (pos least_gm)) (Err ShortOfGm)
+    (cond (is_below diff) (Err ShortAtHeel)
+    (cond beyond (Err ShortBeyond)
+    (cond (ltb area least_area) (Err ShortOfArea) (Ok tt))))
 
--- the code of each judgement
+-- the code of each test that fails, and of a judgement
+abbrev pub shortfall_code : Shortfall → ℕ
+shortfall_code ShortOfGm = 40
+shortfall_code ShortAtHeel = 41
+shortfall_code ShortBeyond = 42
+shortfall_code ShortOfArea = 43
+
 abbrev pub judgement_code : Judgement → ℕ
-judgement_code Passed = 0
-judgement_code ShortOfGm = 40
-judgement_code ShortAtHeel = 41
-judgement_code ShortBeyond = 42
-judgement_code ShortOfArea = 43
+judgement_code (Ok u) = 0
+judgement_code (Err why) = shortfall_code why
 
 -- the verdict on figures made from GM and the ten DIFFs, with the DIFF at the heel limit
 abbrev pub verdict_from : (heel upper : ℕ) → ℤ → List ℤ → Verdict

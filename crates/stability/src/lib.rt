@@ -10,10 +10,9 @@ ghost use Rattle.stability.specs.Verdict.{heel_limit, stretch_of, diff_at, peak,
 use arms::Basis;
 use record::{Rule, Ship};
 
-// What the verdict says: passed, or the first test that fails.
+// The first test that fails.
 #[derive(Clone, Copy, Debug, PartialEq, Eq)]
-pub enum Judgement {
-    Passed,
+pub enum Shortfall {
     ShortOfGm,
     ShortAtHeel,
     ShortBeyond,
@@ -23,7 +22,7 @@ pub enum Judgement {
 // GM and DIFF at the heel limit in micrometres, UPPER in hundredths of a degree, AREA in both multiplied.
 #[derive(Clone, Copy)]
 pub struct Verdict {
-    pub judgement: Judgement,
+    pub judgement: Result<(), Shortfall>,
     pub gm: i64,
     pub diff: i64,
     pub upper: u64,
@@ -81,7 +80,7 @@ fn fails_at(heel: u64, upper: u64, d: i64, k: usize) -> bool
     ensures { result ≡ (ltb heel (angle k) && leb (angle k) upper && is_below d) }
 {
     let a = arms::angle_at(k);
-    heel < a && a <= upper && sign::is_below(d)
+    heel < a && a <= upper && d < 0
 }
 
 // Whether DIFF is below zero at one of the ten angles above the heel limit and not above UPPER.
@@ -112,27 +111,27 @@ fn fails_beyond(heel: u64, upper: u64, ds: [i64; 10]) -> bool
     requires { Bounded ds × (upper ≤ 4000) }
     ensures { result ≡ fails_beyond heel upper ds }
 {
-    fails_among(heel, upper, ds) || heel < upper && sign::is_below(diff_at(ds, upper))
+    fails_among(heel, upper, ds) || heel < upper && diff_at(ds, upper) < 0
 }
 
 // The first test that fails.
 #[tactic(auto, unfolding(crate::specs::Verdict::judged_by))]
-fn judgement_of(gm: i64, diff: i64, beyond: bool, area: u64) -> Judgement
+fn judgement_of(gm: i64, diff: i64, beyond: bool, area: u64) -> Result<(), Shortfall>
     ensures { result ≡ judged_by gm diff beyond area }
 {
     if gm < LEAST_GM {
-        return Judgement::ShortOfGm;
+        return Err(Shortfall::ShortOfGm);
     }
     if diff < 0 {
-        return Judgement::ShortAtHeel;
+        return Err(Shortfall::ShortAtHeel);
     }
     if beyond {
-        return Judgement::ShortBeyond;
+        return Err(Shortfall::ShortBeyond);
     }
     if area < LEAST_AREA {
-        return Judgement::ShortOfArea;
+        return Err(Shortfall::ShortOfArea);
     }
-    Judgement::Passed
+    Ok(())
 }
 
 // The verdict on ten DIFFs.
