@@ -25,10 +25,11 @@ pub enum NotJudged {
     TooHeavy,
 }
 
-// Whether two columns are held, and all are in order.
+// Whether two columns are held, and all are in order. That they have twenty places, which the prover knows of a parameter by value alone, `judge` takes from here.
 #[tactic(auto, using(crate::proofs::Columns::two_held))]
 fn enough_columns(cs: Columns) -> bool
-    ensures { result ≡ (leb 2 (length (held cs)) && in_order (held cs)) }
+    ensures value { result ≡ (leb 2 (length (held cs)) && in_order (held cs)) }
+    ensures places { length cs.places ≡ 20 }
 {
     2 <= cs.count && columns::in_order(cs)
 }
@@ -43,9 +44,9 @@ fn of_ten(k: Column) -> Column
 
 // The verdict between the columns i and i + 1, or 34.
 #[tactic(auto, using(crate::proofs::Columns::between_below))]
-fn judge_between(c: Condition, i: usize) -> Result<Verdict, NotJudged>
-    requires { Between c i }
-    ensures { result ≡ judged_at c (Some i) }
+fn judge_between(c: &Condition, i: usize) -> Result<Verdict, NotJudged>
+    requires { Between c.now i }
+    ensures { result ≡ judged_at c.now (Some i) }
 {
     let weight = c.total;
     if GREATEST_WEIGHT < weight {
@@ -62,8 +63,8 @@ fn judge_between(c: Condition, i: usize) -> Result<Verdict, NotJudged>
 
 // 30 to 33 in their order, then 34 or the verdict.
 #[tactic(auto, unfolding(crate::specs::Judge::judged_of))]
-pub fn judge(c: Condition) -> Result<Verdict, NotJudged>
-    ensures { result ≡ judged_of c }
+pub fn judge(c: &Condition) -> Result<Verdict, NotJudged>
+    ensures { result ≡ judged_of c.now }
 {
     if !(c.shipped && limits::ship_limits(c.ship)) {
         return Err(NotJudged::NoShip);

@@ -107,8 +107,8 @@ fn added_answer(a: Result<(), NotAdded>) -> Result<(), Refusal>
 
 // 00, or 20, 23, 22 in this order.
 #[tactic(auto, unfolding(crate::specs::Operations::column_operation), using(crate::proofs::Effects::change_code))]
-pub fn column_answer(c: Condition, k: Column) -> Result<(), Refusal>
-    ensures { answer_code result ≡ (column_operation c k).code }
+pub fn column_answer(c: &Condition, k: Column) -> Result<(), Refusal>
+    ensures { answer_code result ≡ (column_operation c.now k).code }
 {
     added_answer(columns::column_answer(c.columns, k))
 }
@@ -134,22 +134,22 @@ pub fn hold_answer(n: u32, h: Hold) -> Result<u64, NotWeighed>
 
 // Whether there is a hold n.
 #[tactic(auto, using(crate::proofs::Taking::count_at))]
-fn is_held(holds: [Hold; 16], n: u32) -> bool
+fn is_held(holds: &[Hold; 16], n: u32) -> bool
     requires { (1 ≤ n) × (n ≤ 16) }
-    ensures { result ≡ is_held (get_or holds (n - 1) no_hold) }
+    ensures { result ≡ is_held (get_or holds.now (n - 1) no_hold) }
 {
     0 < holds[(n - 1) as usize].head.count
 }
 
 // 00, or 20, 24.
 #[tactic(auto, unfolding(crate::specs::Operations::drop_operation), using(storing::proofs::Taking::place_within, crate::proofs::Answered::one_answered))]
-pub fn drop_answer(c: Condition, n: u32) -> Result<(), Refusal>
-    ensures { answer_code result ≡ (drop_operation c n).code }
+pub fn drop_answer(c: &Condition, n: u32) -> Result<(), Refusal>
+    ensures { answer_code result ≡ (drop_operation c.now n).code }
 {
     if !limits::place_limits(n) {
         return Err(Refusal::Limits);
     }
-    tested(is_held(c.holds, n), Refusal::NoHold)
+    tested(is_held(&c.holds, n), Refusal::NoHold)
 }
 
 // Limits, and a test behind them.

@@ -25,7 +25,16 @@ const LEAST_ROOM: usize = 96;
 
 const SHOW_ROOM: usize = 2100;
 
+// The paper's codes for a buffer that is too short: for any reply, and for the reply of show; and for what is taken. Each is given at one place or two, so that an
+// enum of them would be turned into its number where it is made.
+const NO_ROOM: u8 = 15;
+
+const NO_ROOM_FOR_SHOW: u8 = 16;
+
+const TAKEN: u8 = 0;
+
 // A code, which is the number that the paper has printed, the length of the reply that shows it, and the moment of a hold that was weighed for it, which its effect puts into the figure.
+// The moment is 0 where no hold was weighed: the effect of a hold alone reads it.
 #[derive(Clone, Copy)]
 pub struct Replied {
     pub code: u8,
@@ -33,7 +42,8 @@ pub struct Replied {
     pub moment: u64,
 }
 
-// What a line gives: its code, the reply's length and the condition after it.
+// What a line gives: its code, the reply's length and the condition after it. The code is a number here and below, since the claims speak of the numbers printed: an enum of
+// the twenty codes would be a second name for each, turned back into its number by the next function.
 #[derive(Clone, Copy)]
 pub struct Stepped {
     pub code: u8,
@@ -43,17 +53,23 @@ pub struct Stepped {
 
 // ---- the replies
 
-// Every line but judge, a show that is taken and total is answered `(answer CC)`.
-fn answer_with(code: u8, out: &mut [u8]) -> Replied
-    requires { 96 ≤ length out.old }
-    ensures { Replies code (answer_reply code) 0 result out.old out.new }
+// A reply for which no hold was weighed.
+fn plain_reply(code: u8, len: usize) -> Replied
+    ensures { result ≡ record { code = code; len = len; moment = 0 } }
 {
-    let len = reply::answer(out, code);
     Replied {
         code,
         len,
         moment: 0,
     }
+}
+
+// Every line but judge, a show that is taken and total is answered `(answer CC)`.
+fn answer_with(code: u8, out: &mut [u8]) -> Replied
+    requires { 96 ≤ length out.old }
+    ensures { Replies code (answer_reply code) 0 result out.old out.new }
+{
+    plain_reply(code, reply::answer(out, code))
 }
 
 // An operation is answered with 00, or the code of its refusal.
@@ -79,38 +95,25 @@ fn show_total(figure: u64, out: &mut [u8]) -> Replied
     requires { 96 ≤ length out.old }
     ensures { Replies 0 (total_reply figure) 0 result out.old out.new }
 {
-    let len = reply::total(out, figure);
-    Replied {
-        code: 0,
-        len,
-        moment: 0,
-    }
+    plain_reply(TAKEN, reply::total(out, figure))
 }
 
 // Judge replies `(verdict CC ..)`.
-fn give_verdict(c: Condition, out: &mut [u8]) -> Replied
+fn give_verdict(c: &Condition, out: &mut [u8]) -> Replied
     requires { 96 ≤ length out.old }
-    ensures { Replies (verdict_given c (judged_of c)).code (verdict_given c (judged_of c)).reply 0 result out.old out.new }
+    ensures { Replies (verdict_given c.now (judged_of c.now)).code (verdict_given c.now (judged_of c.now)).reply 0 result out.old out.new }
 {
-    let j = judging::judge(c);
-    match j {
+    match judging::judge(c) {
         Err(r) => {
             let code = judging::refusal_code(r);
-            let len = reply::refusal(out, code);
-            Replied {
-                code,
-                len,
-                moment: 0,
-            }
+            plain_reply(code, reply::refusal(out, code))
         }
         Ok(v) => {
             let code = judging::judgement_code(v.judgement);
-            let len = reply::verdict(out, code, v.gm, v.diff, v.upper, v.area);
-            Replied {
+            plain_reply(
                 code,
-                len,
-                moment: 0,
-            }
+                reply::verdict(out, code, v.gm, v.diff, v.upper, v.area),
+            )
         }
     }
 }
@@ -122,23 +125,18 @@ fn show_form(line: &[u8], out: &mut [u8]) -> Replied
     ensures { Replies (show_code (length out.old)) (show_answer (tokens line.now) (length out.old)) 0 result out.old out.new }
 {
     if out.len() < SHOW_ROOM {
-        return answer_with(16, out);
+        return answer_with(NO_ROOM_FOR_SHOW, out);
     }
-    let len = showing::show(line, out);
-    Replied {
-        code: 0,
-        len,
-        moment: 0,
-    }
+    plain_reply(TAKEN, showing::show(line, out))
 }
 
 // The reply to the request of a line.
-fn reply_to(c: Condition, line: &[u8], r: Request, out: &mut [u8]) -> Replied
+#[tactic(auto, unfolding(crate::specs::Step::outcome_of), using(crate::proofs::Carrying::carried_show))]
+fn reply_to(c: &Condition, line: &[u8], r: Request, out: &mut [u8]) -> Replied
     requires asked { option_map carried_request (request_of (tokens line.now)) ≡ Some r }
     requires room { (length line.now ≤ 2000) × (96 ≤ length out.old) }
-    ensures { Replies (outcome_of c (tokens line.now) (length out.old) r).code (outcome_of c (tokens line.now) (length out.old) r).reply (moment_found r) result out.old out.new }
+    ensures { Replies (outcome_of c.now (tokens line.now) (length out.old) r).code (outcome_of c.now (tokens line.now) (length out.old) r).reply (moment_found r) result out.old out.new }
 {
-    let sums = c.sums;
     match r {
         Request::ShipLine(s) => answer_operation(operations::ship_answer(s), out),
         Request::ColumnLine(k) => answer_operation(operations::column_answer(c, k), out),
@@ -146,24 +144,20 @@ fn reply_to(c: Condition, line: &[u8], r: Request, out: &mut [u8]) -> Replied
         Request::HoldLine(n, h) => answer_weighed(operations::hold_answer(n, h), out),
         Request::DropLine(n) => answer_operation(operations::drop_answer(c, n), out),
         Request::JudgeLine => give_verdict(c, out),
-        Request::ClearLine => answer_with(0, out),
+        Request::ClearLine => answer_with(TAKEN, out),
         Request::ShowLine => show_form(line, out),
         Request::TotalLine => show_total(c.total, out),
-        Request::WeighingLine(w) => answer_operation(operations::weighing_answer(sums, w), out),
+        Request::WeighingLine(w) => answer_operation(operations::weighing_answer(c.sums, w), out),
     }
 }
 
 // The reply to a line and what was heard of it, at the front of the lent buffer.
-pub fn answer(c: Condition, line: &[u8], h: Result<Request, Fault>, out: &mut [u8]) -> Replied
+pub fn answer(c: &Condition, line: &[u8], h: Result<Request, Fault>, out: &mut [u8]) -> Replied
     requires { h ≡ heard_of line.now }
-    ensures { Replies (step_of c line.now (length out.old)).code (step_of c line.now (length out.old)).reply (handed_on h (length out.old)) result out.old out.new }
+    ensures { Replies (step_of c.now line.now (length out.old)).code (step_of c.now line.now (length out.old)).reply (handed_on h (length out.old)) result out.old out.new }
 {
     if out.len() < LEAST_ROOM {
-        return Replied {
-            code: 15,
-            len: 0,
-            moment: 0,
-        };
+        return plain_reply(NO_ROOM, 0);
     }
     match h {
         Ok(request) => reply_to(c, line, request, out),
@@ -173,28 +167,25 @@ pub fn answer(c: Condition, line: &[u8], h: Result<Request, Fault>, out: &mut [u
 
 // ---- the step
 
+// One line, in place: its reply at the front of the lent buffer, with its code and length, and its effect on the condition, which is large.
+pub fn take(c: &mut Condition, line: &[u8], out: &mut [u8]) -> (u8, usize)
+    ensures { Steps (step_of c.old line.now (length out.old)) (record { code = result.0; len = result.1; after = c.new }) out.old out.new }
+{
+    let h = hearing::hear(line);
+    let r = answer(c, line, h, out);
+    if let Ok(request) = h {
+        if r.code == TAKEN {
+            effects::effect(c, request, r.moment);
+        }
+    }
+    (r.code, r.len)
+}
+
 // One line: its reply at the front of the lent buffer, and the condition after it.
 pub fn step(c: Condition, line: &[u8], out: &mut [u8]) -> Stepped
     ensures { Steps (step_of c line.now (length out.old)) result out.old out.new }
 {
-    let h = hearing::hear(line);
-    let a = answer(c, line, h, out);
-    let code = a.code;
-    let len = a.len;
-    let Ok(request) = h else {
-        return Stepped {
-            code,
-            len,
-            after: c,
-        };
-    };
-    if code != 0 {
-        return Stepped {
-            code,
-            len,
-            after: c,
-        };
-    }
-    let after = effects::effect(c, request, a.moment);
+    let mut after = c;
+    let (code, len) = take(&mut after, line, out);
     Stepped { code, len, after }
 }

@@ -1,10 +1,13 @@
 -- Columns in their twenty places, and one more of them.
-use mathlib.Core.Path.{◌≡◌, ◌∙◌}
+use mathlib.Core.Path.{◌≡◌, refl, sym, ◌∙◌, ap}
+use mathlib.Core.Bool.{Bool, true, false}
 use mathlib.Core.List.{[], ◌∷◌, ◌++◌}
-use Prim.Native.Nat.{◌≤◌, ◌<◌}
+use Prim.Native.Nat.{ℕ, ◌≤◌, ◌<◌, min}
 use native.Mathlib.Omega.{arith}
 use native.Mathlib.Numerals.{add-one}
-use lib.ListN.{length, length-set}
+use lib.Dec.{leb}
+use lib.ListN.{length, length-set, length-take}
+use borrow.Author.Tests.{lt-leb, le-leb, leb-true, leb-false}
 use lib.Seq.{length-take-le, take-suc-set}
 use Rattle.record.specs.declared.Column.{Column}
 use Rattle.record.specs.declared.Columns.{Columns}
@@ -19,6 +22,14 @@ pub record Fitting (cs : Columns) : Type 0 where
 
 pub held_length : (cs : Columns) → Fitting cs → length (held cs) ≡ cs.count
 held_length cs f = length-take-le cs.count cs.places (omega (arith, f.places, f.count))
+
+-- twenty are held where twenty are counted
+full_by : (n m : ℕ) (x : Bool) → leb 20 n ≡ x → m ≡ min n 20 → x ≡ leb 20 m
+full_by n m true e l = sym (le-leb 20 m (omega (arith, leb-true 20 n e)))
+full_by n m false e l = sym (lt-leb 20 m (omega (arith, leb-false 20 n e)))
+
+pub full_held : (cs : Columns) → length cs.places ≡ 20 → leb 20 cs.count ≡ leb 20 (length (held cs))
+full_held cs l = full_by cs.count (length (held cs)) (leb 20 cs.count) refl (length-take cs.count cs.places ∙ ap (min cs.count) l)
 
 module _ (cs : Columns) (k : Column) (f : Fitting cs) (e : column_answer (held cs) k ≡ Ok tt) where
   pub below_twenty : cs.count < 20

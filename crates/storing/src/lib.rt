@@ -8,64 +8,62 @@ ghost use Rattle.columns.specs.Columns.{with_column};
 ghost use Rattle.storing.specs.Storing.{with_ship, with_load, with_columns, with_hold, with_sums};
 
 use condition::Condition;
-use record::{Column, Hold, ItemSums, Load, Ship};
+use record::{Column, Columns, Hold, ItemSums, Load, Ship};
 
-// The condition is large, and is copied wherever a function gives it: a line that is turned down never comes here.
+// Each changes one field in place: the condition is large, and is not copied for it.
 
 // A new ship replaces the former one.
-pub fn with_ship(c: Condition, s: Ship) -> Condition
-    ensures { result ≡ with_ship c s }
+pub fn store_ship(c: &mut Condition, s: Ship)
+    ensures { c.new ≡ with_ship c.old s }
 {
-    let mut after = c;
-    after.shipped = true;
-    after.ship = s;
-    after
+    c.shipped = true;
+    c.ship = s;
 }
 
 // A new load replaces the former one.
-pub fn with_load(c: Condition, l: Load) -> Condition
-    ensures { result ≡ with_load c l }
+pub fn store_load(c: &mut Condition, l: Load)
+    ensures { c.new ≡ with_load c.old l }
 {
-    let mut after = c;
-    after.loaded = true;
-    after.load = l;
-    after
+    c.loaded = true;
+    c.load = l;
+}
+
+// Whether all places for columns are taken. Apart, since of a condition behind a reference the prover doesn't know that its columns have twenty places.
+#[tactic(auto, using(crate::proofs::Columns::full_held))]
+fn is_full(ks: Columns) -> bool
+    ensures value { result ≡ leb 20 (length (held ks)) }
+    ensures counted { result ≡ leb 20 ks.count }
+{
+    20 <= ks.count
 }
 
 // One column more, where a place is left for it.
-pub fn with_column(c: Condition, k: Column) -> Condition
-    ensures { result ≡ cond (leb 20 (length (held c.columns))) c (with_columns c (with_column c.columns k)) }
+pub fn store_column(c: &mut Condition, k: Column)
+    ensures { c.new ≡ cond (leb 20 (length (held c.old.columns))) c.old (with_columns c.old (with_column c.old.columns k)) }
 {
     let ks = c.columns;
-    if 20 <= ks.count {
-        return c;
+    if is_full(ks) {
+        return;
     }
-    let mut after = c;
-    after.columns = columns::with_column(ks, k);
-    after
+    c.columns = columns::with_column(ks, k);
 }
 
 // The hold in its place, where there is one, and its moment in the figure; a drop puts an empty one there, with 0.
-pub fn with_hold(c: Condition, n: u32, h: Hold, moment: u64) -> Condition
-    ensures { result ≡ cond (place_limits n) (with_hold c n h moment) c }
+#[tactic(auto, using(crate::proofs::Taking::place_within, crate::proofs::Taking::place_any))]
+pub fn store_hold(c: &mut Condition, n: u32, h: Hold, moment: u64)
+    ensures { c.new ≡ cond (place_limits n) (with_hold c.old n h moment) c.old }
 {
     if !limits::place_limits(n) {
-        return c;
+        return;
     }
     let place = (n - 1) as usize;
-    let old = c.holds[place];
-    let figure = total::exchange(c.total, old, moment);
-    let mut after = c;
-    after.total = figure;
-    after.holds[place] = h;
-    after
+    c.total = total::exchange(c.total, c.holds[place], moment);
+    c.holds[place] = h;
 }
 
 // The weight items, kept by their sums.
-pub fn with_sums(c: Condition, s: ItemSums) -> Condition
-    ensures { result ≡ with_sums c s }
+pub fn store_sums(c: &mut Condition, s: ItemSums)
+    ensures { c.new ≡ with_sums c.old s }
 {
-    let mut after = c;
-    after.sums = s;
-    after
+    c.sums = s;
 }

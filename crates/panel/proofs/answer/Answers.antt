@@ -11,7 +11,8 @@ pub returns-then-out-lt-LEAST_ROOM : goal.returns-then-out-lt-LEAST_ROOM
 unfolding over
 returns-then-out-lt-LEAST_ROOM c =
     let k = c.args in
-    rw (step_none k.c k.line.now (length k.out.now) (search rules)) (record { coded = refl; long = refl; moment = sym (handed_none k.h (length k.out.now) (search rules)); written = refl })
+    rw (step_none k.c.now k.line.now (length k.out.now) (search rules), c.plain_reply.ensures)
+    (record { coded = refl; long = refl; moment = sym (handed_none k.h (length k.out.now) (search rules)); written = refl })
 
 pub reply_to-requires : goal.reply_to-requires
 reply_to-requires c =
@@ -22,10 +23,10 @@ reply_to-requires c =
 pub returns-in-Ok : goal.returns-in-Ok
 returns-in-Ok c =
     let room : 96 ≤ length c.args.out.now = search rules in
-    rw (step_request c.args.c c.args.line.now (length c.args.out.now) c.in-Ok.request (sym c.in-Ok.is ∙ c.requires) room, c.in-Ok.is, handed_room c.in-Ok.request (length c.args.out.now) room)
+    rw (step_request c.args.c.now c.args.line.now (length c.args.out.now) c.in-Ok.request (sym c.in-Ok.is ∙ c.requires) room, c.in-Ok.is, handed_room c.in-Ok.request (length c.args.out.now) room)
     c.reply_to.ensures
 
 pub returns-in-Err : goal.returns-in-Err
 returns-in-Err c =
-    rw (step_refused c.args.c c.args.line.now (length c.args.out.now) c.in-Err.fault (sym c.in-Err.is ∙ c.requires) (search rules), c.in-Err.is, ← c.fault_code.ensures)
+    rw (step_refused c.args.c.now c.args.line.now (length c.args.out.now) c.in-Err.fault (sym c.in-Err.is ∙ c.requires) (search rules), c.in-Err.is, ← c.fault_code.ensures)
     c.answer_with.ensures

@@ -1,15 +1,13 @@
 -- `reply_to`: the reply to the request of a line.
 use mathlib.Core.Path.{refl}
-use Rattle.text.specs.Token.{tokens}
 use Rattle.operations.proofs.Taking.{hold_answered}
 use Rattle.panel.specs.Step.{outcome_of}
-use Rattle.panel.proofs.Carrying.{carried_show}
 use Rattle.panel.proofs.reply_to.Goals as goal
 
 pub returns-in-ShipLine : goal.returns-in-ShipLine
 unfolding outcome_of
 returns-in-ShipLine c =
-    rw (c.in-ShipLine.is, ← c.ship_answer.ensures c.args.c) c.answer_operation.ensures
+    rw (c.in-ShipLine.is, ← c.ship_answer.ensures c.args.c.now) c.answer_operation.ensures
 
 pub returns-in-ColumnLine : goal.returns-in-ColumnLine
 unfolding outcome_of
@@ -18,43 +16,26 @@ returns-in-ColumnLine c = rw (c.in-ColumnLine.is, ← c.column_answer.ensures) c
 pub returns-in-LoadLine : goal.returns-in-LoadLine
 unfolding outcome_of
 returns-in-LoadLine c =
-    rw (c.in-LoadLine.is, ← c.load_answer.ensures c.args.c) c.answer_operation-in-LoadLine.ensures
+    rw (c.in-LoadLine.is, ← c.load_answer.ensures c.args.c.now) c.answer_operation-in-LoadLine.ensures
 
 pub returns-in-HoldLine : goal.returns-in-HoldLine
 unfolding outcome_of
 returns-in-HoldLine c =
     let args = c.args in
     let a = rw c.hold_answer.ensures at c.answer_weighed.ensures in
-    rw (c.in-HoldLine.is, ← hold_answered c.in-HoldLine.n c.in-HoldLine.h args.c) a
+    rw (c.in-HoldLine.is, ← hold_answered c.in-HoldLine.n c.in-HoldLine.h args.c.now) a
 
 pub returns-in-DropLine : goal.returns-in-DropLine
 unfolding outcome_of
 returns-in-DropLine c =
     rw (c.in-DropLine.is, ← c.drop_answer.ensures) c.answer_operation-in-DropLine.ensures
 
-pub returns-in-JudgeLine : goal.returns-in-JudgeLine
-unfolding outcome_of
-returns-in-JudgeLine c = rw c.in-JudgeLine.is c.give_verdict.ensures
-
 pub returns-in-ClearLine : goal.returns-in-ClearLine
 unfolding outcome_of
 returns-in-ClearLine c = rw c.in-ClearLine.is c.answer_with.ensures
 
-pub show_form-requires : goal.show_form-requires
-show_form-requires c =
-    record { is_show = carried_show (tokens c.args.line.now) c.args.r c.requires.asked c.in-ShowLine.is; room = c.requires.room }
-
-pub returns-in-ShowLine : goal.returns-in-ShowLine
-unfolding outcome_of
-returns-in-ShowLine c =
-    rw c.in-ShowLine.is c.show_form.ensures
-
-pub returns-in-TotalLine : goal.returns-in-TotalLine
-unfolding outcome_of
-returns-in-TotalLine c = rw c.in-TotalLine.is c.show_total.ensures
-
 pub returns-in-WeighingLine : goal.returns-in-WeighingLine
 unfolding outcome_of
 returns-in-WeighingLine c =
-    let code = c.weighing_answer.ensures c.args.c refl in
+    let code = c.weighing_answer.ensures c.args.c.now refl in
     rw (c.in-WeighingLine.is, ← code) c.answer_operation-in-WeighingLine.ensures
