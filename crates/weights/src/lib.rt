@@ -56,7 +56,7 @@ fn weighed_kg(s: ItemSums) -> u16
     if GREATEST_KG * d < n {
         return 65535;
     }
-    whole::divide_up(n, d) as u16
+    n.div_ceil(d) as u16
 }
 
 // The load that the items make.
