@@ -1,7 +1,7 @@
 -- How large section moments are, and that two breadths that shift separately have no more than both as one.
 use mathlib.Core.Path.{◌≡◌, refl}
 use mathlib.Core.Logic.{inl, inr}
-use Prim.Native.Nat.{ℕ, zero, suc, ◌+◌, ◌*◌, ◌≤◌}
+use Prim.Native.Nat.{ℕ, zero, suc, ◌+◌, ◌*◌, ◌^◌, ◌≤◌}
 use native.Mathlib.Omega.{arith}
 use native.Mathlib.Nat.{mul-le-mul}
 use Rattle.whole.proofs.Dividing.{ceil_low, ceil_high, ceil_le}
@@ -13,6 +13,10 @@ use Rattle.boards.specs.Laws.{SeparatelyNoMore}
 -- ---- a section moment within a part's limits
 pub uncut_le : (b : ℕ) → b ≤ 40000 → uncut_moment b ≤ 2486986666667
 uncut_le b h = let bb = mul-le-mul h h in ceil_le (46631 * (b * (b * b))) 1200000 2486986666667 (omega arith) (omega (arith, mul-le-mul h bb))
+
+-- and of any breadth of 16 bits
+pub uncut_small : (b : ℕ) → b ≤ 65535 → uncut_moment b ≤ 2 ^ 44
+uncut_small b h = let bb = mul-le-mul h h in ceil_le (46631 * (b * (b * b))) 1200000 (2 ^ 44) (omega arith) (omega (arith, mul-le-mul h bb))
 
 -- depths of 30,000 leave it uncut
 pub deep_uncut : (b : ℕ) → b ≤ 40000 → deck_moment b 30000 30000 ≡ uncut_moment b

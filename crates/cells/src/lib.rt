@@ -50,7 +50,7 @@ fn wing_depth(dist: u64, girder: u64) -> u64
     ensures upper_bound { result < 2 ^ 20 }
 {
     let raised = (standard_depth(dist) + 375 * girder).saturating_sub(375 * 600);
-    whole::divide_up(raised.max(500 * 100), 50)
+    raised.max(500 * 100).div_ceil(50)
 }
 
 // A cell's depth in tenths of a mm.
@@ -88,7 +88,7 @@ pub fn sizes_of(cell: Cell) -> CellSizes
     let lip = record::lip_of(cell) as u64;
     CellSizes {
         width,
-        area: whole::divide_up(width * depth_of(cell), 10),
+        area: (width * depth_of(cell)).div_ceil(10),
         most: most_held(width, lip),
     }
 }

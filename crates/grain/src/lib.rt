@@ -131,7 +131,7 @@ fn part_moment(mode: Mode, p: Part) -> Option<u64>
     ensures { result ≡ part_answer mode p }
 {
     let moment = part_section(mode, p)?;
-    Some(whole::divide_up(moment * p.length as u64, 1000000000))
+    Some((moment * p.length as u64).div_ceil(1000000000))
 }
 
 // The parts of a hold, added up.
@@ -161,7 +161,7 @@ fn percentage_of(mode: Mode) -> u64
 }
 
 // The weight moment of a hold record as it stands, in kg·m.
-#[tactic(auto, unfolding(crate::specs::Sum::weighed_of, crate::specs::Sum::weight_moment, crate::specs::Sum::hold_moment, crate::specs::Walk::parts_answer), using(crate::proofs::Weights::hold_within, crate::proofs::Weights::parts_le))]
+#[tactic(auto, unfolding(crate::specs::Sum::weighed_of, crate::specs::Sum::weight_moment, crate::specs::Sum::hold_moment, crate::specs::Walk::parts_answer), using(crate::proofs::Weights::hold_within, crate::proofs::Weights::parts_le, whole::proofs::Dividing::div_ceil_is))]
 pub fn weigh(h: Hold) -> Result<u64, NotWeighed>
     ensures { result ≡ weighed_of h }
 {
@@ -169,6 +169,6 @@ pub fn weigh(h: Hold) -> Result<u64, NotWeighed>
         return Err(NotWeighed::Limits);
     }
     let sum = parts_moment(h).ok_or(NotWeighed::NoFit)?;
-    let moment = whole::divide_up(sum * percentage_of(h.head.mode), 100);
-    Ok(whole::divide_up(10000 * moment, h.head.factor as u64))
+    let moment = (sum * percentage_of(h.head.mode)).div_ceil(100);
+    Ok((10000 * moment).div_ceil(h.head.factor as u64))
 }

@@ -19,15 +19,16 @@ pub fn uncut_moment(b: u64) -> u64
     requires { b ≤ 65535 }
     ensures { result ≡ uncut_moment b }
 {
-    whole::divide_up(SLOPE_25 * (b * (b * b)), 1200000)
+    (SLOPE_25 * (b * (b * b))).div_ceil(1200000)
 }
 
 // The base of a triangle of this area under a line of this slope, in hundred-thousandths, rounded down.
+#[tactic(auto, using(whole::proofs::Roots::root_found))]
 pub fn base_of(slope: u64, area: u64) -> u64
     requires { (0 < slope) × (area ≤ 2 ^ 40) }
     ensures { result ≡ root (200000 * area / slope) }
 {
-    whole::root_of(200000 * area / slope)
+    (200000 * area / slope).isqrt()
 }
 
 // The lesser of void and grain, m deep, lies as a triangle.
@@ -37,7 +38,7 @@ fn triangle_moment(b: u64, m: u64) -> u64
     ensures { result ≡ triangle_moment b (b * m) }
 {
     let area = b * m;
-    whole::divide_up(area * (3 * b - 2 * base_of(SLOPE_25, area)), 6)
+    (area * (3 * b - 2 * base_of(SLOPE_25, area))).div_ceil(6)
 }
 
 // Neither lies as a triangle: the whole parts of the two terms, and their rests over one divisor.

@@ -44,19 +44,15 @@ pub fn makes_load(s: ItemSums) -> bool
 }
 
 // KG of the items: the summed products divided by the sum of tonnes, rounded up, with 1 for 0.
-#[tactic(auto, using(crate::proofs::Weights::kg_none, crate::proofs::Weights::kg_undivided, crate::proofs::Weights::kg_far, crate::proofs::Weights::kg_up_lem, whole::proofs::Dividing::ceil_le))]
+#[tactic(auto, unfolding(crate::specs::Weights::weighed_kg), using(crate::proofs::Weights::kg_undivided, whole::proofs::Dividing::div_ceil_is))]
 fn weighed_kg(s: ItemSums) -> u16
     ensures { result ≡ weighed_kg s }
 {
-    let d = s.tonnes as u64;
-    let n = s.products;
-    if n == 0 || d == 0 {
+    if s.tonnes == 0 {
         return 1;
     }
-    if GREATEST_KG * d < n {
-        return 65535;
-    }
-    whole::divide_up(n, d) as u16
+    let kg = s.products.div_ceil(s.tonnes as u64);
+    kg.max(1).min(GREATEST_KG) as u16
 }
 
 // The load that the items make.
