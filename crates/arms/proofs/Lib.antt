@@ -1,4 +1,5 @@
 pub mod Tens
+pub mod Made
 pub mod Bounds
 pub mod Held
 pub mod Floors

@@ -11,15 +11,30 @@ ghost use Rattle.arms.specs.Judgeable.{Judgeable};
 ghost use Rattle.arms.specs.Walk.{left_over, left_overs, ReachOf, Small, Bounded};
 
 use record::{Column, Load};
+use std::array;
 
-// What the arms are read from: the two columns around the displacement, the load, and the total weight moment W in kg·m. That they are
-// within their limits is no field of it: judge's definition makes a basis of any condition's records.
+// What the arms are read from: the two columns around the displacement, the load, and the total weight moment W in kg·m.
 #[derive(Clone, Copy)]
 pub struct Basis {
     pub low: Column,
     pub high: Column,
     pub load: Load,
     pub weight: u64,
+}
+
+// A basis within its limits, its columns around D. A basis alone carries no such fact: judge's definition makes one of any condition's
+// records.
+#[derive(Clone, Copy)]
+pub struct SoundBasis {
+    pub basis: Basis,
+    ghost judgeable: { Judgeable basis },
+}
+
+// DIFF at each of the ten angles, small enough for a straight line between two of them.
+#[derive(Clone, Copy)]
+pub struct Diffs {
+    pub values: [i64; 10],
+    ghost bounded: { Bounded values },
 }
 
 // The ten angles, in hundredths of a degree, each with its sine, in millionths.
@@ -36,21 +51,14 @@ const ANGLES: [(u64, u64); 10] = [
     (4000, 642788),
 ];
 
-// The k-th of the ten angles.
+// The k-th of the ten angles. Here and below k < 10 is asked for as the bound of an index: a type of such a place was thought no plainer,
+// since each closure would make it of k, by the same fact.
 #[tactic(auto, unfolding(crate::specs::Angles::angle))]
 pub fn angle_at(k: usize) -> u64
     requires { k < 10 }
     ensures { result ≡ angle k }
 {
     ANGLES[k].0
-}
-
-#[tactic(auto, unfolding(crate::specs::Angles::sine))]
-fn sine_at(k: usize) -> u64
-    requires { k < 10 }
-    ensures { result ≡ sine k }
-{
-    ANGLES[k].1
 }
 
 // The difference of a righting arm and a heeling arm.
@@ -84,10 +92,10 @@ struct Reach {
 }
 
 #[tactic(auto, using(crate::proofs::Bounds::span_some, crate::proofs::Bounds::span_le, crate::proofs::Bounds::past_le, crate::proofs::Bounds::fluid_le))]
-fn reach_of(b: Basis) -> Reach
-    requires { Judgeable b }
-    ensures { ReachOf b result }
+fn reach_of(s: SoundBasis) -> Reach
+    ensures { ReachOf s.basis result }
 {
+    let b = s.basis;
     Reach {
         span: (b.high.d - b.low.d) as u64,
         past: (b.load.d - b.low.d) as u64,
@@ -97,80 +105,67 @@ fn reach_of(b: Basis) -> Reach
 
 // GM, rounded down.
 #[tactic(auto, unfolding(crate::specs::Arms::gm))]
-pub fn gm_of(b: Basis) -> i64
-    requires { Judgeable b }
-    ensures { result ≡ gm b }
+pub fn gm_of(s: SoundBasis) -> i64
+    ensures { result ≡ gm s.basis }
 {
-    let t = reach_of(b);
+    let b = s.basis;
+    let t = reach_of(s);
     let km = arm_over(t.span, t.past, b.low.km as u64, b.high.km as u64);
     whole::rounded_down(km, 1000 * t.fluid * t.span, t.span)
 }
 
 // The righting arm at the k-th angle: KN rounded down, since it rights the ship, less fluid KG times the sine rounded up.
-#[tactic(auto, unfolding(crate::specs::Arms::kn_arm, crate::specs::Arms::kg_arm, crate::specs::Arms::righting_arm), using(crate::proofs::Bounds::value_le, crate::proofs::Bounds::kn_le, crate::proofs::Bounds::kg_le, crate::proofs::Tens::sine_le, sign::proofs::Signs::sub_reads))]
-fn righting_at(b: Basis, k: usize) -> i64
-    requires { Judgeable b × (k < 10) }
-    ensures value { result ≡ righting_arm b k }
+#[tactic(auto, unfolding(crate::specs::Angles::sine, crate::specs::Arms::kn_arm, crate::specs::Arms::kg_arm, crate::specs::Arms::righting_arm), using(crate::proofs::Bounds::value_le, crate::proofs::Bounds::kn_le, crate::proofs::Bounds::kg_le, crate::proofs::Tens::sine_le, sign::proofs::Signs::sub_reads, whole::proofs::Dividing::div_ceil_is))]
+fn righting_at(s: SoundBasis, k: usize) -> i64
+    requires { k < 10 }
+    ensures value { result ≡ righting_arm s.basis k }
     ensures plus_bound { plus result ≤ 2 ^ 26 }
     ensures minus_bound { minus result ≤ 2 ^ 26 }
 {
-    let t = reach_of(b);
+    let b = s.basis;
+    let t = reach_of(s);
     let kn = arm_over(t.span, t.past, b.low.kn[k] as u64, b.high.kn[k] as u64) / t.span;
-    let kg = whole::divide_up(t.fluid * sine_at(k), 1000);
+    let kg = (t.fluid * ANGLES[k].1).div_ceil(1000);
     sign::difference(kn, kg)
 }
 
 // The heeling arm at the k-th angle, rounded up, since it heels her.
-#[tactic(auto, unfolding(crate::specs::Arms::heeling_arm), using(crate::proofs::Bounds::load_bounds, crate::proofs::Bounds::heeling_le, crate::proofs::Tens::angle_le))]
-fn heeling_at(b: Basis, k: usize) -> u64
-    requires { Judgeable b × (k < 10) }
-    ensures value { result ≡ heeling_arm b k }
+#[tactic(auto, unfolding(crate::specs::Arms::heeling_arm), using(crate::proofs::Bounds::load_bounds, crate::proofs::Bounds::heeling_le, crate::proofs::Tens::angle_le, whole::proofs::Dividing::div_ceil_is))]
+fn heeling_at(s: SoundBasis, k: usize) -> u64
+    requires { k < 10 }
+    ensures value { result ≡ heeling_arm s.basis k }
     ensures upper_bound { result ≤ 2 ^ 34 }
 {
+    let b = s.basis;
     let moment = 1000 * b.weight * (20000 - angle_at(k));
-    whole::divide_up(moment, 20000 * b.load.d as u64)
+    moment.div_ceil(20000 * b.load.d as u64)
 }
 
-// The arms at each of the ten angles are filled in by loops: of `array::from_fn` it was not proved that each entry is the closure's.
-fn righting_arms(b: Basis) -> [i64; 10]
-    requires { Judgeable b }
-    ensures { result ≡ righting_arms b }
+// The righting arms at the ten angles, the heeling arms, and the differences, each an array of ten, as document 01 has them.
+fn righting_arms(s: SoundBasis) -> [i64; 10]
+    ensures { result ≡ righting_arms s.basis }
 {
-    let mut arms = [0i64; 10];
-    for k in 0..10 {
-        arms[k] = righting_at(b, k);
-    }
-    arms
+    array::from_fn(|k| righting_at(s, k))
 }
 
-fn heeling_arms(b: Basis) -> [u64; 10]
-    requires { Judgeable b }
-    ensures { result ≡ heeling_arms b }
+fn heeling_arms(s: SoundBasis) -> [u64; 10]
+    ensures { result ≡ heeling_arms s.basis }
 {
-    let mut arms = [0u64; 10];
-    for k in 0..10 {
-        arms[k] = heeling_at(b, k);
-    }
-    arms
+    array::from_fn(|k| heeling_at(s, k))
 }
 
-// The ten differences.
 fn differences(righting: [i64; 10], heeling: [u64; 10]) -> [i64; 10]
     requires { Small righting heeling }
     ensures { result ≡ left_overs righting heeling }
 {
-    let mut rest = [0i64; 10];
-    for k in 0..10 {
-        rest[k] = left_over(righting[k], heeling[k]);
-    }
-    rest
+    array::from_fn(|k| left_over(righting[k], heeling[k]))
 }
 
 // DIFF at each of the ten angles.
-pub fn diffs_of(b: Basis) -> [i64; 10]
-    requires { Judgeable b }
-    ensures value { result ≡ diffs b }
-    ensures bounded { Bounded result }
+pub fn diffs_of(s: SoundBasis) -> Diffs
+    ensures { result.values ≡ diffs s.basis }
 {
-    differences(righting_arms(b), heeling_arms(b))
+    Diffs {
+        values: differences(righting_arms(s), heeling_arms(s)),
+    }
 }

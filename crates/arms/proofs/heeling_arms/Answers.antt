@@ -1,10 +1,8 @@
 -- `heeling_arms`
-use native.Mathlib.Omega.{arith}
-use Rattle.whole.proofs.Lists.{filled_is}
+use Rattle.std.proofs.Common.{rules}
 use Rattle.arms.specs.Arms.{heeling_arm}
+use Rattle.arms.proofs.Made.{made_is}
 use Rattle.arms.proofs.heeling_arms.Goals as goal
 
 pub returns : goal.returns
-returns c =
-    let v = c.loop-k.invariant in
-    filled_is 0 10 (heeling_arm c.args.b) c.loop-k.arms v.1 (λ i h. v.2 i (omega arith))
+returns c = made_is _ (heeling_arm c.args.s.basis) _ 0 10 (λ i y q l k. search rules) _ c.from_fn.ensures.items
