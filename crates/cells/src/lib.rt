@@ -84,8 +84,8 @@ fn most_held(w: u64, g: u64) -> u64
 pub fn sizes_of(cell: Cell) -> CellSizes
     ensures { result ≡ sizes_of cell }
 {
-    let width = record::width_of(cell) as u64;
-    let lip = record::lip_of(cell) as u64;
+    let width = cell.width() as u64;
+    let lip = cell.lip() as u64;
     CellSizes {
         width,
         area: (width * depth_of(cell)).div_ceil(10),

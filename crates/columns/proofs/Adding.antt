@@ -10,7 +10,8 @@ use borrow.Author.Tests.{le-leb, lt-leb, lt-ltb, ltb-true}
 use lib.ListN.{length, get_or, take}
 use lib.Seq.{take-length}
 use Rattle.record.specs.declared.Column.{Column}
-use Rattle.std.specs.Prelude.{Ok, Err}
+use Rattle.std.specs.Prelude.{Ok, Err, Option, Some, None, slice_get}
+use Rattle.std.proofs.lemmas.Option.{slice_get_within, get_or_from_slice_get, slice_get-get_or}
 use Rattle.columns.specs.declared.NotAdded.TheVariants.{Limits, Full, NotAbove}
 use Rattle.limits.specs.Limits.{column_limits}
 use Rattle.columns.specs.Columns.{is_above, column_answer}
@@ -36,9 +37,21 @@ above_is d (k ∷ ks) z =
     let t = ap (is_above d) (sym (take-length (k ∷ ks))) ∙ above_last d (k ∷ ks) (length (k ∷ ks)) z (omega arith) (omega arith) in
     (λ e h. ltb-true _ d (sym t ∙ e), λ f. t ∙ lt-ltb _ d (f (omega arith)))
 
-pub above_none : (d : ℕ) (l : List Column) (n : ℕ) → n ≡ 0 → is_above d (take n l) ≡ true
+-- the test of the last column, where one is read and where none is
+pub above_some : (d : ℕ) (ks : List Column) (last : Column) → slice_get ks (length ks - 1) ≡ Some last → is_above d ks ≡ ltb last.d d
+above_some d ks last e =
+    let some : length ks - 1 < length ks = slice_get_within ks (length ks - 1) last e in
+    ap (is_above d) (sym (take-length ks)) ∙ above_last d ks (length ks) last (omega arith) (omega arith)
+    ∙ ap (λ (k : Column). ltb k.d d) (get_or_from_slice_get ks (length ks - 1) last last e)
+
+pub above_missing : (d : ℕ) (ks : List Column) → slice_get ks (length ks - 1) ≡ None → is_above d ks ≡ true
 unfolding is_above
-above_none d l n e = rw e refl
+above_missing d [] e = refl
+above_missing d (k ∷ ks) e =
+    let z : ◌≡◌ {A = Option Column} (Some (get_or (k ∷ ks) (length (k ∷ ks) - 1) k)) None =
+    sym (slice_get-get_or (k ∷ ks) (length (k ∷ ks) - 1) k (omega arith)) ∙ e in
+    let y : ◌≡◌ {A = ℕ} 0 1 = cc in
+    absurd (omega arith)
 
 -- the answers of a list of columns, each by the test that gives it
 module _ (ks : List Column) (k : Column) where

@@ -1,79 +1,41 @@
--- Laws of the search for the two columns around a displacement.
+-- The first place that a search finds is the place of the two columns around a displacement.
 use mathlib.Core.Path.{◌≡◌, refl, sym, ap, ◌∙◌}
-use mathlib.Core.Bool.{Bool, true, false, cond, ◌&&◌}
+use mathlib.Core.Bool.{true, false, ◌&&◌}
 use mathlib.Core.List.{List, [], ◌∷◌}
-use Prim.Native.Nat.{ℕ, ◌+◌, ◌≤◌, ◌<◌}
-use native.Mathlib.Nat.{add-zero, zero-add}
+use Prim.Native.Nat.{ℕ, zero, suc, ◌+◌, ◌<◌}
 use native.Mathlib.Omega.{arith}
 use lib.Dec.{leb}
-use lib.ListN.{length, get_or, drop, length-drop, length-take}
-use lib.Seq.{get_or-take}
-use borrow.Author.Tests.{le-leb, lt-leb}
-use Rattle.whole.proofs.Lists.{drop_next, and_false}
-use Rattle.record.specs.declared.Columns.{Columns}
-use Rattle.record.specs.Held.{held}
+use lib.ListN.{length}
 use Rattle.record.specs.declared.Column.{Column}
-use Rattle.record.proofs.Taken.{past_column}
 use Rattle.std.specs.Prelude.{Option, Some, None}
-use Rattle.columns.specs.Search.{next, columns_around}
+use Rattle.columns.specs.Search.{next, columns_around, around, FirstAround}
 
--- i places further
-abbrev pub moved : ℕ → Option ℕ → Option ℕ
-moved i (Some j) = Some (i + j)
-moved i None = None
+-- behind the first column the places are one less
+beyond : (d : ℕ) (a : Column) (ks : List Column) (i : ℕ) → around d (a ∷ ks) (suc i) ≡ around d ks i
+beyond d a ks i =
+    let q : suc i + 1 ≡ suc (i + 1) = omega arith in rw q refl
 
-pub moved_none : (a : Option ℕ) → moved 0 a ≡ a
-moved_none (Some j) = ap Some (zero-add j)
-moved_none None = refl
-
-moved_next : (i : ℕ) (a : Option ℕ) → moved i (next a) ≡ moved (i + 1) a
-moved_next i (Some j) = ap Some (omega arith)
-moved_next i None = refl
-
--- one column of the list, or none: outside
-few : (d : ℕ) (l : List Column) → length l ≤ 1 → columns_around d l ≡ None
+none_found : (d : ℕ) (ks : List Column) → ((i : ℕ) → i + 1 < length ks → around d ks i ≡ false) → None ≡ columns_around d ks
 unfolding columns_around
-few d [] h = refl
-few d (k ∷ []) h = refl
-few d (k ∷ m ∷ l) h = absurd (omega arith)
+none_found d [] f = refl
+none_found d (a ∷ []) f = refl
+none_found d (a ∷ b ∷ ks) f =
+    let e : (leb a.d d && leb d b.d) ≡ false = f 0 (omega arith) in
+    rw e (ap next (none_found d (b ∷ ks) (λ i h. sym (beyond d a (b ∷ ks) i) ∙ f (suc i) (omega arith))))
 
--- within the columns held a place of the array is one of the list
-pub held_at : (cs : Columns) (i : ℕ) → i < length (held cs) → get_or (held cs) i past_column ≡ get_or cs.places i past_column
-held_at cs i h = get_or-take cs.count cs.places i past_column (omega (arith, length-take cs.count cs.places))
+one_found : (d : ℕ) (ks : List Column) (i : ℕ) → i + 1 < length ks → around d ks i ≡ true → ((k : ℕ) → k < i → around d ks k ≡ false) → Some i ≡ columns_around d ks
+unfolding columns_around
+one_found d [] i h e f = absurd (omega arith)
+one_found d (a ∷ []) i h e f = absurd (omega arith)
+one_found d (a ∷ b ∷ ks) zero h e f =
+    let t : (leb a.d d && leb d b.d) ≡ true = e in rw t refl
+one_found d (a ∷ b ∷ ks) (suc i) h e f =
+    let t : (leb a.d d && leb d b.d) ≡ false = f 0 (omega arith) in
+    rw t
+    (ap next
+    (one_found d (b ∷ ks) i (omega arith) (sym (beyond d a (b ∷ ks) i) ∙ e)
+    (λ k h. sym (beyond d a (b ∷ ks) k) ∙ f (suc k) (omega arith))))
 
--- as far as the loop has come, the search in what is left of the columns is the search in all of them
-module _ (d : ℕ) (cs : Columns) (i : ℕ) (before : moved i (columns_around d (drop i (held cs))) ≡ columns_around d (held cs)) where
-  here : Bool
-  here = leb (get_or cs.places i past_column).d d && leb d (get_or cs.places (i + 1) past_column).d
-
-  two : i + 1 < length (held cs) → drop i (held cs) ≡ get_or cs.places i past_column ∷ get_or cs.places (i + 1) past_column ∷ drop (i + 1 + 1) (held cs)
-  two h =
-      drop_next (held cs) i past_column (omega arith)
-      ∙ rw (held_at cs i (omega arith)) (ap (λ (k : List Column). get_or cs.places i past_column ∷ k) (rest h))
-    where
-      rest : i + 1 < length (held cs) → drop (i + 1) (held cs) ≡ get_or cs.places (i + 1) past_column ∷ drop (i + 1 + 1) (held cs)
-      rest h = drop_next (held cs) (i + 1) past_column h ∙ rw (held_at cs (i + 1) h) refl
-
-  step : i + 1 < length (held cs) → columns_around d (drop i (held cs)) ≡ cond here (Some 0) (next (columns_around d (drop (i + 1) (held cs))))
-  unfolding columns_around here
-  step h = rw (two h, drop_next (held cs) (i + 1) past_column h, held_at cs (i + 1) h) refl
-
-  pub around_found : i + 1 < length (held cs) → (get_or cs.places i past_column).d ≤ d → d ≤ (get_or cs.places (i + 1) past_column).d → Some i ≡ columns_around d (held cs)
-  unfolding here
-  around_found h low high =
-      let e : here ≡ true = rw (le-leb _ d low, le-leb d _ high) refl in
-      sym (sym before ∙ ap (moved i) (step h) ∙ rw e (ap Some (add-zero i)))
-
-  beyond : i + 1 < length (held cs) → here ≡ false → moved (i + 1) (columns_around d (drop (i + 1) (held cs))) ≡ columns_around d (held cs)
-  beyond h e = sym (sym before ∙ ap (moved i) (step h) ∙ rw e (moved_next i (columns_around d (drop (i + 1) (held cs)))))
-
-  pub around_above : i + 1 < length (held cs) → d < (get_or cs.places i past_column).d → moved (i + 1) (columns_around d (drop (i + 1) (held cs))) ≡ columns_around d (held cs)
-  unfolding here
-  around_above h above = beyond h (rw (lt-leb _ d above) refl)
-
-  pub around_below : i + 1 < length (held cs) → (get_or cs.places (i + 1) past_column).d < d → moved (i + 1) (columns_around d (drop (i + 1) (held cs))) ≡ columns_around d (held cs)
-  unfolding here
-  around_below h below = beyond h (rw (lt-leb d _ below) (and_false _))
-
-  pub around_none : length (held cs) ≤ i + 1 → None ≡ columns_around d (held cs)
-  around_none h = sym (sym before ∙ ap (moved i) (few d (drop i (held cs)) (omega (arith, length-drop i (held cs)))))
+pub first_is : (d : ℕ) (ks : List Column) (r : Option ℕ) → FirstAround d ks r → r ≡ columns_around d ks
+first_is d ks None f = none_found d ks f
+first_is d ks (Some i) f = one_found d ks i f.0 f.1 f.2

@@ -1,7 +1,8 @@
 -- Document 01, Column: what a list of columns answers to one more.
-use Rattle.std.specs.Prelude.{Bool, true, not, cond, ◌&&◌, Result, Ok, Err, List, [], ◌∷◌, ℕ, ◌+◌, leb, ltb, length, set}
+use Rattle.std.specs.Prelude.{◌≡◌, ◌↔◌, Bool, true, ◌<◌, get_or, not, cond, ◌&&◌, Result, Ok, Err, List, [], ◌∷◌, ℕ, ◌+◌, leb, ltb, length, set}
 use Rattle.record.specs.declared.Column.{Column}
 use Rattle.record.specs.declared.Columns.{Columns}
+use Rattle.record.specs.Filler.{no_column}
 use Rattle.columns.specs.declared.NotAdded.{NotAdded}
 use Rattle.columns.specs.declared.NotAdded.TheVariants.{Limits, Full, NotAbove}
 use Rattle.limits.specs.Limits.{column_limits}
@@ -23,6 +24,14 @@ unfoldable pub in_order : List Column → Bool
 in_order [] = true
 in_order (k ∷ []) = column_limits k
 in_order (k ∷ m ∷ ks) = column_limits k && ltb k.d m.d && in_order (m ∷ ks)
+
+-- the column at place i is below the one behind it
+abbrev pub rises : List Column → ℕ → Bool
+rises ks i = ltb (get_or ks i no_column).d (get_or ks (i + 1) no_column).d
+
+-- the answer whether each column is below the one behind it
+abbrev pub Rising : List Column → Bool → Type 0
+Rising ks r = (r ≡ true) ↔ ((i : ℕ) → i + 1 < length ks → rises ks i ≡ true)
 
 -- the paper's code for each answer
 abbrev pub not_added_code : NotAdded → ℕ

@@ -2,9 +2,11 @@
 #![tactic(auto)]
 
 ghost use Rattle.std.specs.Prelude.{◌≡◌, ◌<◌};
+ghost use Rattle.std.specs.List.{list_all};
 ghost use Rattle.record.specs.Held.{held};
-ghost use Rattle.columns.specs.Columns.{column_answer, in_order, with_column};
-ghost use Rattle.columns.specs.Search.{columns_around};
+ghost use Rattle.limits.specs.Limits.{column_limits};
+ghost use Rattle.columns.specs.Columns.{column_answer, in_order, Rising, with_column};
+ghost use Rattle.columns.specs.Search.{columns_around, FirstAround};
 
 use record::{Column, Columns};
 
@@ -23,14 +25,14 @@ pub fn column_answer(cs: Columns, k: Column) -> Result<(), NotAdded>
     if !limits::column_limits(k) {
         return Err(NotAdded::Limits);
     }
-    let n = cs.count as usize;
-    if 20 <= n {
+    let held = cs.held();
+    if cs.places.len() <= held.len() {
         return Err(NotAdded::Full);
     }
-    if 0 < n && k.d <= cs.places[n - 1].d {
-        return Err(NotAdded::NotAbove);
+    match held.last() {
+        Some(last) if k.d <= last.d => Err(NotAdded::NotAbove),
+        _ => Ok(()),
     }
-    Ok(())
 }
 
 // The columns with one more.
@@ -45,32 +47,41 @@ pub fn with_column(cs: Columns, k: Column) -> Columns
     t
 }
 
+// The place of the first of two neighbours around d.
+fn first_around(ks: &[Column], d: u32) -> Option<usize>
+    ensures { FirstAround d ks.now result }
+{
+    ks.windows(2)
+        .position(|pair| pair[0].d <= d && d <= pair[1].d)
+}
+
 // The place of the first of two neighbouring columns around d.
+#[tactic(auto, using(crate::proofs::Searching::first_is))]
 pub fn columns_around(cs: Columns, d: u32) -> Option<usize>
     ensures { result ≡ columns_around d (held cs) }
 {
-    let n = (cs.count as usize).min(20);
-    for i in 0..n.saturating_sub(1) {
-        if cs.places[i].d <= d && d <= cs.places[i + 1].d {
-            return Some(i);
-        }
-    }
-    None
+    first_around(cs.held(), d)
+}
+
+// Whether each column is within its limits.
+fn all_within(ks: &[Column]) -> bool
+    ensures { result ≡ list_all column_limits ks.now }
+{
+    ks.iter().all(|k| limits::column_limits(*k))
+}
+
+// Whether each column is below the one behind it.
+fn all_rise(ks: &[Column]) -> bool
+    ensures { Rising ks.now result }
+{
+    ks.windows(2).all(|pair| pair[0].d < pair[1].d)
 }
 
 // Whether each column held is within its limits and above the one before.
+#[tactic(auto, using(crate::proofs::Order::order_limits))]
 pub fn in_order(cs: Columns) -> bool
     ensures { result ≡ in_order (held cs) }
 {
-    let n = (cs.count as usize).min(20);
-    for i in 0..n {
-        let k = cs.places[i];
-        if !limits::column_limits(k) {
-            return false;
-        }
-        if i + 1 < n && cs.places[i + 1].d <= k.d {
-            return false;
-        }
-    }
-    true
+    let held = cs.held();
+    all_within(held) && all_rise(held)
 }

@@ -18,7 +18,8 @@ use Rattle.record.specs.declared.Column.{Column}
 use Rattle.record.specs.declared.Hold.{Hold}
 use Rattle.record.specs.declared.WeightItem.{WeightItem}
 use Rattle.record.specs.Held.{parts_of}
-use Rattle.limits.specs.Limits.{edge, displacement, ship_limits, load_limits, column_limits, part_limits, hold_limits, item_limits}
+use Rattle.record.specs.Held.{edge}
+use Rattle.limits.specs.Limits.{displacement, ship_limits, load_limits, column_limits, part_limits, hold_limits, item_limits}
 use Rattle.items.specs.Carried.{carried}
 use Rattle.items.proofs.Kept.{kept_within, same_test, kept_last, same_all, kept_all}
 use Rattle.parts.specs.Carried.{carried_part}

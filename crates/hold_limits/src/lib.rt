@@ -1,15 +1,15 @@
 // The limits of a hold, its parts and its cells (code 20).
 #![tactic(auto)]
 
-ghost use Rattle.std.specs.Prelude.{◌≡◌, ◌≤◌, sum_by};
+ghost use Rattle.std.specs.Prelude.{◌≡◌, ◌≤◌, length, sum_by};
 ghost use Rattle.std.specs.List.{list_all};
-ghost use Rattle.record.specs.Held.{cell_width, cells_of, parts_of};
+ghost use Rattle.whole.specs.Lists.{within};
+ghost use Rattle.record.specs.Held.{cell_width};
 ghost use Rattle.limits.specs.Limits.{cell_limits, section_limits, slack_limits, part_limits, hold_limits};
 
-use limits::is_within;
 use record::{Cell, Hold, Mode, Part};
 
-#[tactic(auto, unfolding(limits::specs::Limits::cell_limits))]
+#[tactic(auto, unfolding(whole::specs::Lists::within, limits::specs::Limits::cell_limits))]
 fn cell_limits(cell: Cell) -> bool
     ensures { result ≡ cell_limits cell }
 {
@@ -20,42 +20,59 @@ fn cell_limits(cell: Cell) -> bool
             girder,
             lip,
         } => {
-            is_within(1, 40000, width)
-                && is_within(0, 20000, dist)
-                && is_within(0, 3000, girder)
-                && is_within(0, 10000, lip)
+            (1..=40000).contains(&width)
+                && (0..=20000).contains(&dist)
+                && (0..=3000).contains(&girder)
+                && (0..=10000).contains(&lip)
         }
         Cell::Hatch {
             width,
             opening,
             lip,
-        } => is_within(1, 40000, width) && is_within(0, 3000, opening) && is_within(0, 10000, lip),
+        } => (1..=40000).contains(&width)
+            && (0..=3000).contains(&opening)
+            && (0..=10000).contains(&lip),
         Cell::Void { width, depth, lip } => {
-            is_within(1, 40000, width) && is_within(0, 5000, depth) && is_within(0, 10000, lip)
+            (1..=40000).contains(&width)
+                && (0..=5000).contains(&depth)
+                && (0..=10000).contains(&lip)
         }
     }
 }
 
-// Whether each of the first `count` cells is within its limits.
-fn cells_within(p: Part) -> bool
-    ensures { result ≡ list_all cell_limits (cells_of p) }
+// Whether each cell is within its limits.
+fn cells_within(cells: &[Cell]) -> bool
+    ensures { result ≡ list_all cell_limits cells.now }
 {
-    p.cells
-        .iter()
-        .take(p.count as usize)
-        .all(|c| cell_limits(*c))
+    cells.iter().all(|c| cell_limits(*c))
 }
 
-// The widths of the first `count` cells together: by a loop, since it was not proved of `sum` that 32 bits hold them.
-fn width_together(p: Part) -> u32
-    requires { p.count ≤ 8 }
-    ensures { result ≡ sum_by cell_width (cells_of p) }
+// The widths of cells together: by a loop, since it was not proved of `sum` that 32 bits hold them.
+fn width_together(cells: &[Cell]) -> u32
+    requires { length cells.now ≤ 8 }
+    ensures { result ≡ sum_by cell_width cells.now }
 {
     let mut sum: u32 = 0;
-    for cell in &p.cells[..p.count as usize] {
-        sum += record::width_of(*cell) as u32;
+    for cell in cells {
+        sum += cell.width() as u32;
     }
     sum
+}
+
+// Whether there are cells or parts, and not more than so many.
+#[tactic(auto, unfolding(whole::specs::Lists::within))]
+fn is_count(most: u8, count: u8) -> bool
+    ensures { result ≡ within 1 most count }
+{
+    (1..=most).contains(&count)
+}
+
+// Whether a part's length is within its limits.
+#[tactic(auto, unfolding(whole::specs::Lists::within))]
+fn is_length(length: u16) -> bool
+    ensures { result ≡ within 1 60000 length }
+{
+    (1..=60000).contains(&length)
 }
 
 // A part of a trimmed or voided hold.
@@ -63,21 +80,22 @@ fn width_together(p: Part) -> u32
 fn section_limits(p: Part) -> bool
     ensures { result ≡ section_limits p }
 {
-    is_within(1, 8, p.count as u16)
-        && is_within(1, 60000, p.length)
-        && cells_within(p)
-        && width_together(p) <= 40000
+    let cells = p.own_cells();
+    is_count(8, p.count)
+        && is_length(p.length)
+        && cells_within(cells)
+        && width_together(cells) <= 40000
 }
 
 // A part of a partly filled hold.
-#[tactic(auto, unfolding(limits::specs::Limits::slack_limits))]
+#[tactic(auto, unfolding(whole::specs::Lists::within, limits::specs::Limits::slack_limits))]
 fn slack_limits(p: Part) -> bool
     ensures { result ≡ slack_limits p }
 {
-    is_within(1, 60000, p.length)
-        && is_within(1, 40000, p.breadth)
-        && is_within(1, 30000, p.void)
-        && is_within(1, 30000, p.grain)
+    is_length(p.length)
+        && (1..=40000).contains(&p.breadth)
+        && (1..=30000).contains(&p.void)
+        && (1..=30000).contains(&p.grain)
 }
 
 fn part_limits(mode: Mode, p: Part) -> bool
@@ -89,21 +107,19 @@ fn part_limits(mode: Mode, p: Part) -> bool
     }
 }
 
-// Whether each of the first `count` parts is within its limits.
-fn parts_within(h: Hold) -> bool
-    ensures { result ≡ list_all (part_limits h.head.mode) (parts_of h) }
+// Whether each part is within its limits.
+fn parts_within(mode: Mode, parts: &[Part]) -> bool
+    ensures { result ≡ list_all (part_limits mode) parts.now }
 {
-    let mode = h.head.mode;
-    h.parts
-        .iter()
-        .take(h.head.count as usize)
-        .all(|p| part_limits(mode, *p))
+    parts.iter().all(|p| part_limits(mode, *p))
 }
 
-#[tactic(auto, unfolding(limits::specs::Limits::hold_limits), using(whole::proofs::Lists::list_all_is))]
+#[tactic(auto, unfolding(whole::specs::Lists::within, limits::specs::Limits::hold_limits), using(whole::proofs::Lists::list_all_is))]
 pub fn hold_limits(h: Hold) -> bool
     ensures { result ≡ hold_limits h }
 {
     let head = h.head;
-    is_within(1, 6, head.count as u16) && is_within(5000, 40000, head.factor) && parts_within(h)
+    is_count(6, head.count)
+        && (5000..=40000).contains(&head.factor)
+        && parts_within(head.mode, h.own_parts())
 }

@@ -23,7 +23,8 @@ use Rattle.record.specs.declared.Hold.{Hold}
 use Rattle.record.specs.declared.WeightItem.{WeightItem}
 use Rattle.record.specs.Filler.{no_part}
 use Rattle.record.specs.Held.{cell_width, cells_of, parts_of}
-use Rattle.limits.specs.Limits.{edge, ship_limits, displacement, rise, load_limits, column_limits, cell_limits, section_limits, slack_limits, part_limits, hold_limits, place_limits, item_limits}
+use Rattle.record.specs.Held.{edge}
+use Rattle.limits.specs.Limits.{ship_limits, displacement, rise, load_limits, column_limits, cell_limits, section_limits, slack_limits, part_limits, hold_limits, place_limits, item_limits}
 use Rattle.limits.specs.Ranges.{EdgeRange, ShipRange, LoadRange, ColumnRange, CellRange, SectionRange, SlackRange, PartRange, HoldRange, PlaceRange, ItemRange, RiseRange}
 
 -- ---- ship

@@ -1,8 +1,6 @@
 -- Document 01, Lines of the panel, and document 02, P5: the limits of each record's numbers. A number outside them is code 20.
 use Rattle.std.specs.Prelude.{Bool, ◌&&◌, ℕ, leb, eqb, get_or}
 use Rattle.whole.specs.Lists.{within, all, sum_of}
-use Rattle.record.specs.declared.Rule.{Rule}
-use Rattle.record.specs.declared.Rule.TheVariants.{New, Old}
 use Rattle.record.specs.declared.Ship.{Ship}
 use Rattle.record.specs.declared.Load.{Load}
 use Rattle.record.specs.declared.Column.{Column}
@@ -13,12 +11,7 @@ use Rattle.record.specs.declared.Cell.TheVariants.{Wing, Hatch, Void}
 use Rattle.record.specs.declared.Part.{Part}
 use Rattle.record.specs.declared.Hold.{Hold}
 use Rattle.record.specs.declared.WeightItem.{WeightItem}
-use Rattle.record.specs.Held.{cell_width, cells_of, parts_of}
-
--- EDGE, the angle of deck-edge immersion: stored under either rule
-abbrev pub edge : Rule → ℕ
-edge (New e) = e
-edge (Old e) = e
+use Rattle.record.specs.Held.{edge, cell_width, cells_of, parts_of}
 
 -- EDGE and FLOOD 1 to 9,000
 unfoldable pub ship_limits : Ship → Bool

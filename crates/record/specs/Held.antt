@@ -1,5 +1,7 @@
--- What a record holds: the used places of its arrays, and what cells of every kind have.
+-- What a record holds: the used places of its arrays, and what rules and cells of every kind have.
 use Rattle.std.specs.Prelude.{List, ℕ, ◌-◌, length, get_or, take}
+use Rattle.record.specs.declared.Rule.{Rule}
+use Rattle.record.specs.declared.Rule.TheVariants.{New, Old}
 use Rattle.record.specs.declared.Cell.{Cell}
 use Rattle.record.specs.declared.Cell.TheVariants.{Wing, Hatch, Void}
 use Rattle.record.specs.declared.Part.{Part}
@@ -7,6 +9,11 @@ use Rattle.record.specs.declared.Hold.{Hold}
 use Rattle.record.specs.declared.Column.{Column}
 use Rattle.record.specs.declared.Columns.{Columns}
 use Rattle.record.specs.Filler.{no_column}
+
+-- EDGE, the angle of deck-edge immersion: stored under either rule
+abbrev pub edge : Rule → ℕ
+edge (New e) = e
+edge (Old e) = e
 
 -- WIDTH, of every kind of cell
 abbrev pub cell_width : Cell → ℕ

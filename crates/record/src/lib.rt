@@ -2,14 +2,25 @@
 #![tactic(auto)]
 
 ghost use Rattle.std.specs.Prelude.{◌≡◌};
-ghost use Rattle.record.specs.Held.{cell_width, cell_lip};
+ghost use Rattle.record.specs.Held.{edge, cell_width, cell_lip, cells_of, parts_of, held};
 ghost use Rattle.record.specs.Filler.{no_cell, no_part, no_hold, no_column, no_columns, no_sums};
 
-// The rule that judges the ship, with the angle of deck-edge immersion, in hundredths of a degree.
+// The rule that judges the ship, with the angle of deck-edge immersion, in hundredths of a degree: a ship has it under either rule, and the
+// case says which rule reads it.
 #[derive(Clone, Copy)]
 pub enum Rule {
     New(u16),
     Old(u16),
+}
+
+impl Rule {
+    pub fn edge(self) -> u16
+        ensures { result ≡ edge self }
+    {
+        match self {
+            Rule::New(e) | Rule::Old(e) => e,
+        }
+    }
 }
 
 // FLOOD is the angle of flooding.
@@ -35,14 +46,23 @@ pub struct Column {
     pub kn: [u16; 10],
 }
 
-// The columns held: the first `count` of the twenty places.
+// The columns held: the first `count` of the twenty places. Fixed places with a count: the service holds a condition for five years in memory
+// that never grows, and takes no heap.
 #[derive(Clone, Copy)]
 pub struct Columns {
     pub count: u8,
     pub places: [Column; 20],
 }
 
-#[derive(Clone, Copy)]
+impl Columns {
+    pub fn held(&self) -> &[Column]
+        ensures { result.now ≡ held self.now }
+    {
+        &self.places[..(self.count as usize).min(self.places.len())]
+    }
+}
+
+#[derive(Clone, Copy, Debug, PartialEq, Eq)]
 pub enum Mode {
     Trimmed,
     Voided,
@@ -70,8 +90,27 @@ pub enum Cell {
     },
 }
 
-// A part of a hold: a trimmed or voided one has cells, the first `count` of the eight places; a partly filled one has
-// breadth, void and grain.
+impl Cell {
+    pub fn width(self) -> u16
+        ensures { result ≡ cell_width self }
+    {
+        match self {
+            Cell::Wing { width, .. } | Cell::Hatch { width, .. } | Cell::Void { width, .. } =>
+                width,
+        }
+    }
+
+    pub fn lip(self) -> u16
+        ensures { result ≡ cell_lip self }
+    {
+        match self {
+            Cell::Wing { lip, .. } | Cell::Hatch { lip, .. } | Cell::Void { lip, .. } => lip,
+        }
+    }
+}
+
+// A part of a hold: a trimmed or voided one has cells, the first `count` of the eight places, fixed as those of columns; a partly filled one
+// has breadth, void and grain.
 #[derive(Clone, Copy)]
 pub struct Part {
     pub length: u16,
@@ -82,6 +121,14 @@ pub struct Part {
     pub cells: [Cell; 8],
 }
 
+impl Part {
+    pub fn own_cells(&self) -> &[Cell]
+        ensures { result.now ≡ cells_of self.now }
+    {
+        &self.cells[..(self.count as usize).min(self.cells.len())]
+    }
+}
+
 // A hold's mode, stowage factor and number of parts: none where no hold is held.
 #[derive(Clone, Copy)]
 pub struct Head {
@@ -90,10 +137,19 @@ pub struct Head {
     pub count: u8,
 }
 
+// Its parts are the first of the six places, fixed as those of columns.
 #[derive(Clone, Copy)]
 pub struct Hold {
     pub head: Head,
     pub parts: [Part; 6],
+}
+
+impl Hold {
+    pub fn own_parts(&self) -> &[Part]
+        ensures { result.now ≡ parts_of self.now }
+    {
+        &self.parts[..(self.head.count as usize).min(self.parts.len())]
+    }
 }
 
 // A weight of the ship: tonnes, at a height in mm above the keel, as KG.
@@ -118,23 +174,8 @@ pub enum Weighing {
     Unweigh,
 }
 
-pub fn width_of(cell: Cell) -> u16
-    ensures { result ≡ cell_width cell }
-{
-    match cell {
-        Cell::Wing { width, .. } | Cell::Hatch { width, .. } | Cell::Void { width, .. } => width,
-    }
-}
-
-pub fn lip_of(cell: Cell) -> u16
-    ensures { result ≡ cell_lip cell }
-{
-    match cell {
-        Cell::Wing { lip, .. } | Cell::Hatch { lip, .. } | Cell::Void { lip, .. } => lip,
-    }
-}
-
-// What unused places hold.
+// What unused places hold: by these names and not by `Default`, whose derive gives no case that has fields, as a cell's; and the names say that
+// nothing is held there.
 fn no_cell() -> Cell
     ensures { result ≡ no_cell }
 {

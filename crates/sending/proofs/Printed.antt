@@ -21,7 +21,7 @@ use Rattle.record.specs.declared.WeightItem.{WeightItem}
 use Rattle.record.specs.declared.Weighing.TheVariants.{Weight}
 use Rattle.record.specs.Held.{cells_of, parts_of}
 use Rattle.record.proofs.Taken.{cells_length}
-use Rattle.limits.specs.Limits.{edge}
+use Rattle.record.specs.Held.{edge}
 use Rattle.limits.specs.Ranges.{EdgeRange, ShipRange, LoadRange, ColumnRange, CellRange, SectionRange, ItemRange}
 use Rattle.limits.proofs.Ranges.{hold_range, place_range}
 use Rattle.text.specs.Token.{Token, opened, closed, same}

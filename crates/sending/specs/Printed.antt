@@ -15,7 +15,7 @@ use Rattle.record.specs.declared.Part.{Part}
 use Rattle.record.specs.declared.Hold.{Hold}
 use Rattle.record.specs.declared.WeightItem.{WeightItem}
 use Rattle.record.specs.Held.{cells_of, parts_of}
-use Rattle.limits.specs.Limits.{edge}
+use Rattle.record.specs.Held.{edge}
 use Rattle.text.specs.Token.{Token, opened, closed, run}
 use Rattle.reply.specs.Written.{decimal}
 
