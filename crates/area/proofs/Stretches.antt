@@ -11,6 +11,7 @@ use Rattle.sign.specs.Sign.{plus, minus}
 use Rattle.whole.specs.Line.{on_line}
 use Rattle.whole.proofs.Lines.{line_end_lem, line_le}
 use Rattle.arms.specs.Angles.{angle, width}
+use Rattle.arms.proofs.Tens.{width_le}
 use Rattle.area.specs.Area.{area_above, ends_above, counted, stretch_area, area_over}
 use Rattle.arms.specs.Arms.{plus_at, minus_at}
 use Rattle.arms.specs.Walk.{Bounded}
@@ -19,15 +20,15 @@ use Rattle.area.specs.Walk.{EndBounds, part_area}
 pub nothing_above : (t s n : ℕ) → 0 ≡ area_above t s 0 n
 nothing_above t s n = sym (rw (mul-zero, zero-div) refl)
 
-pub nothing_counted : (s u n : ℕ) → 0 ≡ area_above 0 s u n
-nothing_counted s u n = sym (rw (zero-mul u, zero-mul u, zero-div) refl)
-
 pub all_above : (t s u : ℕ) → 0 < u → t * u / (2 * s) ≡ area_above t s u 0
 all_above t s u p = sym (rw (add-zero u) (mul-div-mul_right (t * u) (2 * s) p))
 
 -- ---- the ends of a stretch: its width, and the bounds of the differences there
-pub width_between : (k : ℕ) {from to : ℕ} → from ≡ angle k → to ≡ angle (k + 1) → to - from ≡ width k
+width_between : (k : ℕ) {from to : ℕ} → from ≡ angle k → to ≡ angle (k + 1) → to - from ≡ width k
 width_between k a b = ap₂ ◌-◌ (b ∙ ap angle (add-one k)) a
+
+pub between_le : (k : ℕ) {from to : ℕ} → k < 9 → from ≡ angle k → to ≡ angle (k + 1) → to - from ≤ 500
+between_le k h a b = omega (arith, width_between k a b, width_le k h)
 
 pub end_bounds : (ds : List ℤ) (k : ℕ) → Bounded ds → k < 10 → EndBounds (get_or ds k (pos 0))
 end_bounds ds k b h = record { above = b.above k h; below = b.below k h }
@@ -62,26 +63,35 @@ pub whole_is : (h : ℕ) (d e : ℤ) → 0 < h → h * (plus d + plus e) * (plus
 whole_is h d e p =
     scaled h (plus d + plus e) (minus d + minus e) p ∙ sym (ap₂ (area_above h h) (whole_plus h d e) (whole_minus h d e))
 
+pub whole_none : (h : ℕ) (d e : ℤ) → 0 < h → plus d + plus e ≡ 0 → 0 ≡ part_area h h d e
+whole_none h d e p z = sym (sym (whole_is h d e p) ∙ rw (z, mul-zero, zero-div) refl)
+
+pub whole_small : (h u : ℕ) → h ≤ 500 → u ≤ 2 ^ 27 → h * u * u ≤ 500 * 2 ^ 27 * 2 ^ 27
+whole_small h u p q = mul-le-mul (mul-le-mul p q) q
+
 -- ---- how much of a stretch counts
 module _ (u k : ℕ) where
-  pub counted_none : u ≤ angle k → counted u k ≡ 0
+  counted_none : u ≤ angle k → counted u k ≡ 0
   counted_none h = omega arith
 
-  pub counted_whole : angle (suc k) ≤ u → counted u k ≡ width k
+  pub stretch_none : (p m : ℕ → ℕ) → u ≤ angle k → 0 ≡ stretch_area p m u k
+  stretch_none p m h = sym (rw (counted_none h, zero-mul, zero-mul, zero-div) refl)
+
+  counted_whole : angle (suc k) ≤ u → counted u k ≡ width k
   counted_whole h = omega arith
 
-  pub counted_part : u < angle (suc k) → counted u k ≡ u - angle k
+  counted_part : u < angle (suc k) → counted u k ≡ u - angle k
   counted_part h = omega arith
 
--- the stretch behind the k-th angle, of width h, where all of it or the first t counts
-module _ (ds : List ℤ) (u k h : ℕ) (e : h ≡ width k) where
-  pub stretch_whole : angle (k + 1) ≤ u → part_area h h (get_or ds k (pos 0)) (get_or ds (k + 1) (pos 0)) ≡ stretch_area (plus_at ds) (minus_at ds) u k
+-- the stretch from the k-th angle to the next, where all of it counts or the part up to u
+module _ (ds : List ℤ) (u k : ℕ) {from to : ℕ} (a : from ≡ angle k) (b : to ≡ angle (k + 1)) where
+  pub stretch_whole : to ≤ u → part_area (to - from) (to - from) (get_or ds k (pos 0)) (get_or ds (k + 1) (pos 0)) ≡ stretch_area (plus_at ds) (minus_at ds) u k
   stretch_whole l =
-      let m : angle (suc k) ≤ u = rw (add-one k) at l in rw (e, add-one k, counted_whole u k m) refl
+      let m : angle (suc k) ≤ u = rw (b, add-one k) at l in rw (width_between k a b, add-one k, counted_whole u k m) refl
 
-  pub stretch_part : (t : ℕ) → t ≡ u - angle k → u < angle (k + 1) → part_area h t (get_or ds k (pos 0)) (get_or ds (k + 1) (pos 0)) ≡ stretch_area (plus_at ds) (minus_at ds) u k
-  stretch_part t f l =
-      let m : u < angle (suc k) = rw (add-one k) at l in rw (e, f, add-one k, counted_part u k m) refl
+  pub stretch_part : u < to → part_area (to - from) (u - from) (get_or ds k (pos 0)) (get_or ds (k + 1) (pos 0)) ≡ stretch_area (plus_at ds) (minus_at ds) u k
+  stretch_part l =
+      let m : u < angle (suc k) = rw (b, add-one k) at l in rw (width_between k a b, a, add-one k, counted_part u k m) refl
 
 -- ---- the area is at most the two heights together
 area_le : (t s u n : ℕ) → t ≤ s → 0 < s → area_above t s u n ≤ u

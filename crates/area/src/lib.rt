@@ -4,9 +4,10 @@
 ghost use Rattle.std.specs.Prelude.{◌≡◌, ◌+◌, ◌*◌, ◌/◌, ◌<◌, ◌≤◌, ◌^◌};
 ghost use Rattle.whole.specs.Line.{on_line};
 ghost use Rattle.arms.specs.Arms.{plus_at, minus_at};
-ghost use Rattle.arms.specs.Walk.{Bounded};
 ghost use Rattle.area.specs.Area.{area_above, ends_above, stretch_area, area};
 ghost use Rattle.area.specs.Walk.{EndsFit, EndBounds, part_area};
+
+use arms::Diffs;
 
 // How far the two ends of the first t of h lie above zero, together, at h times their size.
 #[tactic(auto, using(whole::proofs::Lines::line_le))]
@@ -34,17 +35,6 @@ fn area_above(t: u64, s: u64, u: u64, n: u64) -> u64
     whole::product_over(t * u, u, 2 * s * (u + n))
 }
 
-// The same for a whole stretch, with the ends at their own size: one division.
-fn whole_area(h: u64, u: u64, n: u64) -> u64
-    requires { (h ≤ 500) × (u ≤ 2 ^ 27) × (n ≤ 2 ^ 35) }
-    ensures { result ≡ h * u * u / (2 * (u + n)) }
-{
-    if u == 0 {
-        return 0;
-    }
-    h * u * u / (2 * (u + n))
-}
-
 // The part t of a stretch of width h.
 #[tactic(auto, using(whole::proofs::Lines::line_le, crate::proofs::Stretches::part_le))]
 fn part_area(h: u64, t: u64, d: i64, e: i64) -> u64
@@ -61,8 +51,9 @@ fn part_area(h: u64, t: u64, d: i64, e: i64) -> u64
     area_above(t, h, u, n)
 }
 
-// The whole of a stretch of width h.
-#[tactic(auto, using(crate::proofs::Stretches::whole_is, crate::proofs::Stretches::part_le))]
+// The whole of a stretch of width h, which is `part_area` with t = h: apart from it for speed, since with the ends at their own size it
+// takes one division, and never the long one.
+#[tactic(auto, using(crate::proofs::Stretches::whole_is, crate::proofs::Stretches::whole_none, crate::proofs::Stretches::whole_small, crate::proofs::Stretches::part_le))]
 fn full_area(h: u64, d: i64, e: i64) -> u64
     requires { (0 < h) × (h ≤ 500) × EndBounds d × EndBounds e }
     ensures value { result ≡ part_area h h d e }
@@ -70,14 +61,17 @@ fn full_area(h: u64, d: i64, e: i64) -> u64
 {
     let u = sign::above_zero(d) + sign::above_zero(e);
     let n = sign::below_zero(d) + sign::below_zero(e);
-    whole_area(h, u, n)
+    if u == 0 {
+        return 0;
+    }
+    h * u * u / (2 * (u + n))
 }
 
 // The stretch behind the k-th angle, up to UPPER.
-#[tactic(auto, using(crate::proofs::Stretches::width_between, crate::proofs::Stretches::both_bounds, crate::proofs::Stretches::nothing_counted, crate::proofs::Stretches::counted_none, crate::proofs::Stretches::stretch_whole, crate::proofs::Stretches::stretch_part, arms::proofs::Tens::angle_rises, arms::proofs::Tens::width_some, arms::proofs::Tens::width_le))]
-fn stretch_area(ds: [i64; 10], upper: u64, k: usize) -> u64
-    requires { Bounded ds × (k < 9) }
-    ensures value { result ≡ stretch_area (plus_at ds) (minus_at ds) upper k }
+#[tactic(auto, using(arms::proofs::Tens::angle_rises, crate::proofs::Stretches::between_le, crate::proofs::Stretches::both_bounds, crate::proofs::Stretches::stretch_none, crate::proofs::Stretches::stretch_part))]
+fn stretch_area(ds: Diffs, upper: u64, k: usize) -> u64
+    requires { k < 9 }
+    ensures value { result ≡ stretch_area (plus_at ds.values) (minus_at ds.values) upper k }
     ensures upper_bound { result ≤ 2 ^ 36 }
 {
     let from = arms::angle_at(k);
@@ -86,16 +80,16 @@ fn stretch_area(ds: [i64; 10], upper: u64, k: usize) -> u64
     }
     let to = arms::angle_at(k + 1);
     if to <= upper {
-        return full_area(to - from, ds[k], ds[k + 1]);
+        return full_area(to - from, ds.values[k], ds.values[k + 1]);
     }
-    part_area(to - from, upper - from, ds[k], ds[k + 1])
+    part_area(to - from, upper - from, ds.values[k], ds.values[k + 1])
 }
 
-// AREA from 0 to UPPER.
+// AREA from 0 to UPPER. By a loop: `sum` of a `map` asks that along every run of the iterator the sum stays in 64 bits, which was tried and
+// not proved; here the loop's invariant says so.
 #[tactic(auto, using(crate::proofs::Stretches::area_none, crate::proofs::Stretches::area_more))]
-pub fn area_to(ds: [i64; 10], upper: u64) -> u64
-    requires { Bounded ds }
-    ensures { result ≡ area ds upper }
+pub fn area_to(ds: Diffs, upper: u64) -> u64
+    ensures { result ≡ area ds.values upper }
 {
     let mut total: u64 = 0;
     for k in 0..9 {

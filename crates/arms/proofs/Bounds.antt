@@ -12,7 +12,7 @@ use Rattle.sign.specs.Sign.{plus, minus}
 use Rattle.whole.proofs.Lists.{and_true, Within, within_true, all_at, tabulate_at, tabulate_length, filled_is}
 use Rattle.sign.proofs.Signs.{sub_reads}
 use Rattle.whole.proofs.Lines.{line_le}
-use Rattle.whole.proofs.Dividing.{ceil_le}
+use Rattle.whole.proofs.Dividing.{ceil_le, floor_le}
 use Rattle.record.specs.declared.Column.{Column}
 use Rattle.record.specs.declared.Load.{Load}
 use Rattle.limits.specs.Limits.{displacement, column_limits, load_limits}
@@ -90,7 +90,8 @@ module _ (b : Basis) (j : Judgeable b) where
         let w = mul-le-mul j.weight (less (angle k)) in
         let some : 0 < 20000 * b.load.d = omega arith in
         let top : 1000 * b.weight * (20000 - angle k) ≤ 10000000000 * (20000 * b.load.d) = omega (arith, w, mul-le-mul_left 20000 d) in
-        search ceil_le
+        -- (`floor_le` serves a must-fail edit: with the arm rounded down this bound still holds, and a law is what fails)
+        search (ceil_le, floor_le)
       where
         less : (a : ℕ) → 20000 - a ≤ 20000
         less a = omega arith

@@ -6,4 +6,4 @@ use Rattle.arms.specs.Arms.{plus_at, minus_at}
 use Rattle.area.proofs.area_to.Given as goal
 
 abbrev pub invariant-loop-k : goal.invariant-loop-k
-invariant-loop-k l = (l.total ≡ area_over (plus_at l.ds) (minus_at l.ds) l.upper l.k) × (l.total ≤ l.k * 2 ^ 36)
+invariant-loop-k l = (l.total ≡ area_over (plus_at l.ds.values) (minus_at l.ds.values) l.upper l.k) × (l.total ≤ l.k * 2 ^ 36)
