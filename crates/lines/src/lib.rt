@@ -40,8 +40,8 @@ fn take_line(c: &mut Condition, line: &[u8], out: &mut [u8], filled: usize) -> u
     requires { (filled + 2100 ≤ 65536) × (length out.old ≡ 65536) }
     ensures { RepliedBehind (step_of c.old line.now 2100) c.new result filled out.old out.new }
 {
-    let (_, len) = panel::take(c, line, &mut out[filled..]);
-    len
+    let r = panel::take(c, line, &mut out[filled..]);
+    r.len
 }
 
 // Takes the lines of a block from `at` on: up to the last that byte 10 ends, while lines are left and there is room for a reply.
