@@ -10,8 +10,7 @@ use Rattle.panel.specs.Step.{step_of}
 use Rattle.input.specs.Lines.{Cut, cut, NoNewline, line_length, between}
 use Rattle.input.proofs.Cutting.{by_count, bytes_before, cut_none, begun_newlines, cut_join, cut_line, front_none, front, between_on, between_none, line_uncut, line_with}
 use Rattle.lines.specs.declared.Feed.{Feed}
-use Rattle.lines.specs.declared.Taken.{Taken}
-use Rattle.lines.specs.Taking.{LinesTaken, FromBlock, LineTaken, BegunTaken, Moves, FirstMoved, BlockMoved}
+use Rattle.lines.specs.Taking.{Taken, LinesTaken, FromBlock, LineTaken, BegunTaken, Moves, FirstMoved, BlockMoved}
 use Rattle.lines.proofs.Taking.{none_sent, none_replied, one_sent, one_replied, taken_none, taken_more}
 use Rattle.lines.proofs.Blocks.{no_lines, take_front, stands_full, stands_on, stands_lines, stands_line, moves_on}
 
@@ -21,30 +20,32 @@ pub record TakingAt (f : Feed) (block : List ℕ) (at : ℕ) (out₀ : List ℕ)
   pub inside : i ≤ length block
   pub room : r.filled ≤ 65536
   pub sized : length out ≡ 65536
+  pub kept : r.used ≡ f.used
   pub taken : LinesTaken f (take f.filled out₀) (between block at i) r (take r.filled out)
 
 pub taking_first : (f : Feed) (block : List ℕ) (at : ℕ) (out : List ℕ) → at ≤ length block → f.filled ≤ 65536 → length out ≡ 65536 → TakingAt f block at out f at out
 taking_first f block at out h w n =
-    record { onward = omega arith; inside = h; room = w; sized = n; taken = taken_none f (take f.filled out) block at }
+    record { onward = omega arith; inside = h; room = w; sized = n; kept = refl; taken = taken_none f (take f.filled out) block at }
 
 module _ {f : Feed} {block : List ℕ} {at : ℕ} {out₀ : List ℕ} {r : Feed} {i : ℕ} {out : List ℕ} (s : TakingAt f block at out₀ r i out) where
   -- the line up to the next byte 10, at e
   pub taking_line : (e : ℕ) → e ≡ i + line_length (drop i block) → e < length block → 0 < r.left → (g : Feed) (after : List ℕ) →
-      g.cond ≡ (step_of r.cond (between block i e) 2100).after → g.left ≡ r.left - 1 →
+      g.cond ≡ (step_of r.cond (between block i e) 2100).after → g.left ≡ r.left - 1 → g.used ≡ r.used →
       take g.filled after ≡ take r.filled out ++ (step_of r.cond (between block i e) 2100).reply → g.filled ≤ 65536 → length after ≡ 65536 → TakingAt f block at out₀ g (e + 1) after
-  taking_line e there h p g after c n w m l =
+  taking_line e there h p g after c n u w m l =
       let b = between_on block at i (e + 1) s.onward (omega arith) in
       record {
         onward = omega (arith, s.onward);
         inside = omega arith;
         room = m;
         sized = l;
+        kept = u ∙ s.kept;
         taken = rw (← b, line_with block i e there h) (taken_more {g = g} s.taken (between block i e) (line_uncut block i e there) p c n w);
       }
 
-  pub taking_ends : r.used ≡ f.used → (0 < r.left → r.filled + 2100 ≤ 65536 → NoNewline (drop i block)) → FromBlock f block at out₀ (record { feed = r; at = i }) out
-  taking_ends u h =
-      record { onward = s.onward; inside = s.inside; taken = s.taken; kept = u; room = s.room; stopped = h }
+  pub taking_ends : (0 < r.left → r.filled + 2100 ≤ 65536 → NoNewline (drop i block)) → FromBlock f block at out₀ (record { feed = r; at = i }) out
+  taking_ends h =
+      record { onward = s.onward; inside = s.inside; taken = s.taken; kept = s.kept; room = s.room; stopped = h }
 
 -- ---- the line that has begun, taken as a block of its own with byte 10 behind it
 one_of : {P : Type 0} (a b : List (List ℕ)) (k : List ℕ) → a ++ b ≡ k ∷ [] → (a ≡ [] → b ≡ k ∷ [] → P) → (a ≡ k ∷ [] → P) → P

@@ -1,12 +1,16 @@
 -- What is taken from a block of input: its lines in their order, their replies behind those that wait, and where the service stands then.
 use Rattle.std.specs.Prelude.{◌≡◌, List, [], ◌++◌, ℕ, ◌+◌, ◌-◌, ◌≤◌, ◌<◌, length, take, drop}
 use Rattle.condition.specs.Condition.{empty}
-use Rattle.panel.specs.declared.Replied.{Replied}
+use Rattle.condition.specs.declared.Condition.{Condition}
 use Rattle.panel.specs.Step.{Outcome, step_of, condition_after}
 use Rattle.input.specs.Lines.{cut, NoNewline, between}
 use Rattle.lines.specs.declared.Feed.{Feed}
-use Rattle.lines.specs.declared.Taken.{Taken}
 use Rattle.lines.specs.Replies.{sent, replies_to}
+
+-- where the service stands, and the place in the block up to which lines were taken
+pub record Taken : Type 0 where
+  pub feed : Feed
+  pub at : ℕ
 
 -- ---- lines from a block
 
@@ -28,12 +32,11 @@ pub record FromBlock (f : Feed) (block : List ℕ) (at : ℕ) (out : List ℕ) (
   pub room : r.feed.filled ≤ 65536
   pub stopped : 0 < r.feed.left → r.feed.filled + 2100 ≤ 65536 → NoNewline (drop r.at block)
 
--- the reply of an outcome goes behind those that wait in the buffer; w is the moment that it hands on
-pub record RepliedBehind (o : Outcome) (w : ℕ) (r : Replied) (filled : ℕ) (before after : List ℕ) : Type 0 where
-  pub coded : r.code ≡ o.code
-  pub moment : r.moment ≡ w
-  pub room : filled + r.len ≤ 65536
-  pub waits : take (filled + r.len) after ≡ take filled before ++ o.reply
+-- the condition is that after an outcome, whose reply of `long` bytes goes behind those that wait in the buffer
+pub record RepliedBehind (o : Outcome) (c : Condition) (long filled : ℕ) (before after : List ℕ) : Type 0 where
+  pub condition : c ≡ o.after
+  pub room : filled + long ≤ 65536
+  pub waits : take (filled + long) after ≡ take filled before ++ o.reply
 
 -- ---- the line that has begun in an earlier block
 

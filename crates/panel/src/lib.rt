@@ -167,9 +167,9 @@ pub fn answer(c: &Condition, line: &[u8], h: Result<Request, Fault>, out: &mut [
 
 // ---- the step
 
-// One line, in place: its reply at the front of the lent buffer, with its code and length, and its effect on the condition, which is large.
-pub fn take(c: &mut Condition, line: &[u8], out: &mut [u8]) -> (u8, usize)
-    ensures { Steps (step_of c.old line.now (length out.old)) (record { code = result.0; len = result.1; after = c.new }) out.old out.new }
+// One line, in place: its reply at the front of the lent buffer, and its effect on the condition, which is large.
+pub fn take(c: &mut Condition, line: &[u8], out: &mut [u8]) -> Replied
+    ensures { Steps (step_of c.old line.now (length out.old)) (record { code = result.code; len = result.len; after = c.new }) out.old out.new }
 {
     let h = hearing::hear(line);
     let r = answer(c, line, h, out);
@@ -178,7 +178,7 @@ pub fn take(c: &mut Condition, line: &[u8], out: &mut [u8]) -> (u8, usize)
             effects::effect(c, request, r.moment);
         }
     }
-    (r.code, r.len)
+    r
 }
 
 // One line: its reply at the front of the lent buffer, and the condition after it.
@@ -186,6 +186,10 @@ pub fn step(c: Condition, line: &[u8], out: &mut [u8]) -> Stepped
     ensures { Steps (step_of c line.now (length out.old)) result out.old out.new }
 {
     let mut after = c;
-    let (code, len) = take(&mut after, line, out);
-    Stepped { code, len, after }
+    let r = take(&mut after, line, out);
+    Stepped {
+        code: r.code,
+        len: r.len,
+        after,
+    }
 }

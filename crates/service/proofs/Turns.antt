@@ -14,9 +14,8 @@ use Rattle.input.specs.Lines.{cut, between}
 use Rattle.input.specs.Limits.{HasRead, Asked, ToldIs}
 use Rattle.input.proofs.Cutting.{cut_law, front_newlines}
 use Rattle.lines.specs.declared.Feed.{Feed}
-use Rattle.lines.specs.declared.Taken.{Taken}
 use Rattle.lines.specs.Replies.{sent, replies_to}
-use Rattle.lines.specs.Taking.{BegunTaken, Stands, BlockMoved}
+use Rattle.lines.specs.Taking.{Taken, BegunTaken, Stands, BlockMoved}
 use Rattle.lines.proofs.Taking.{sent_on, replied_on, one_sent, one_replied}
 use Rattle.lines.proofs.Blocks.{short_line}
 use Rattle.service.specs.Serving.{Serving, Over}

@@ -32,7 +32,7 @@ fn write_out(output: &mut Stdout, bytes: &[u8]) -> bool {
 
 // Reads once, at most `most` bytes; an interrupted read is repeated. It stops at what came, where a write goes on behind what was written, so that each has a
 // loop of its own. How many came: 0 at the end of the input, or where a read
-// fails.
+// fails, since both end the input: what was taken until then is answered.
 fn fetch(input: &mut Stdin, block: &mut [u8], most: usize) -> usize
     requires { most ≤ length block.old }
     ensures { result ≤ most }
@@ -64,18 +64,17 @@ fn start(left: u64) -> Feed
     }
 }
 
-// What waited was written, all of it.
-fn emptied(f: Feed, written: usize) -> Feed
-    requires { written ≡ f.filled }
-    ensures { result ≡ record { cond = f.cond; left = f.left; used = f.used; filled = 0 } }
+// What waited was written, all of it. Apart, so that what was written is held to what waited.
+fn emptied(f: &mut Feed, written: usize)
+    requires { written ≡ f.old.filled }
+    ensures { f.new ≡ record { cond = f.old.cond; left = f.old.left; used = f.old.used; filled = 0 } }
 {
-    let mut g = f;
-    g.filled = 0;
-    g
+    f.filled = 0;
 }
 
 // Takes lines from standard input until it ends, or this many lines or bytes were read. A turn takes lines from what is left of the
-// block and writes their replies, or reads the next block.
+// block and writes their replies, or reads the next block. `going` is a flag, and no `break`: where it is false, the loop's invariant says that the lines of the whole
+// input were taken; behind a `break` nothing would ask for it. `f`, `line` and `out` are lent apart, as the written replies are a part of `out` alone.
 pub fn serve(from: &mut Stdin, to: &mut Stdout, max_lines: u64, max_bytes: u64) {
     let mut block = [0u8; 65536];
     let mut line = [0u8; 2002];
@@ -87,13 +86,12 @@ pub fn serve(from: &mut Stdin, to: &mut Stdout, max_lines: u64, max_bytes: u64) 
     let mut going = true;
     while going {
         if at < n {
-            let t = lines::feed_block(f, &block[..n], at, &mut line, &mut out);
-            let waits = t.feed.filled;
+            at = lines::feed_block(&mut f, &block[..n], at, &mut line, &mut out);
+            let waits = f.filled;
             if !write_out(to, &out[..waits]) {
                 return;
             }
-            f = emptied(t.feed, waits);
-            at = t.at;
+            emptied(&mut f, waits);
             continue;
         }
         let ask = input::to_ask(f.left, f.used, more);
@@ -107,7 +105,7 @@ pub fn serve(from: &mut Stdin, to: &mut Stdout, max_lines: u64, max_bytes: u64) 
             Told::Goes => more -= n as u64,
             Told::NoMore => going = false,
             Told::LastLine => {
-                f = lines::take_begun(f, &mut line, &mut out);
+                lines::take_begun(&mut f, &mut line, &mut out);
                 going = false;
             }
         }

@@ -4,29 +4,29 @@ use native.Mathlib.Omega.{arith}
 use Rattle.lines.proofs.Pieces.{block_full, block_waits, block_kept}
 use Rattle.lines.proofs.feed_block.Goals as goal
 
-pub returns-then-g-eq0 : goal.returns-then-g-eq0
-returns-then-g-eq0 c =
+pub returns-then-f-eq0 : goal.returns-then-f-eq0
+returns-then-f-eq0 c =
     let pre = c.requires in
-    block_full c.first_line-first.ensures c.take_lines-t.ensures pre.0 c.if-g-eq0.true
+    block_full c.first_line-first.ensures c.take_lines-rest.ensures pre.0 c.if-f-eq0.true
 
-pub returns-then-g-gt-FILLED : goal.returns-then-g-gt-FILLED
-returns-then-g-gt-FILLED c =
+pub returns-then-f-gt-FILLED : goal.returns-then-f-gt-FILLED
+returns-then-f-gt-FILLED c =
     let o = c.first_line-first.auto.out ∙ c.requires.1.output in
-    block_waits c.first_line-first.ensures c.take_lines-t.ensures c.requires.0 c.requires.1.waits (c.take_lines-t.auto.out ∙ o) o c.if-g-gt-FILLED.true
+    block_waits c.first_line-first.ensures c.take_lines-rest.ensures c.requires.0 c.requires.1.waits (c.take_lines-rest.auto.out ∙ o) o c.if-f-gt-FILLED.true
 
-pub keep-requires : goal.keep-requires
-keep-requires c =
+pub keep-f-requires : goal.keep-f-requires
+keep-f-requires c =
     let f = c.first_line-first in
     let pre = c.requires in
-    (omega (arith, c.take_lines-t.ensures.kept, f.ensures.begun), f.auto.line ∙ pre.1.long)
+    (omega (arith, c.take_lines-rest.ensures.kept, f.ensures.begun), f.auto.line ∙ pre.1.long)
 
 pub shape_of-line : goal.shape_of-line
 shape_of-line c =
-    c.keep.auto.line ∙ c.first_line-first.auto.line
+    c.keep-f.auto.line ∙ c.first_line-first.auto.line
 
 pub returns : goal.returns
 returns c =
-    let if1 = c.if-g-eq0 in
+    let if1 = c.if-f-eq0 in
     let pre = c.requires in
-    let k = c.keep in
-    block_kept c.first_line-first.ensures c.take_lines-t.ensures pre.0 k.result k.new.line (omega (arith, if1.false)) (omega (arith, c.if-g-gt-FILLED.false)) k.ensures.upper_bound k.ensures.line_after
+    let k = c.keep-f in
+    block_kept c.first_line-first.ensures c.take_lines-rest.ensures pre.0 k.result k.new.line (omega (arith, if1.false)) (omega (arith, c.if-f-gt-FILLED.false)) k.ensures.upper_bound k.ensures.line_after

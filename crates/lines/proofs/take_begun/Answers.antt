@@ -15,6 +15,5 @@ slice_bounds-take_lines-end-2 c = sym (length-take-le _ _ (simp length-set (omeg
 
 pub returns : goal.returns
 returns c =
-    let t = c.take_lines-t in
-    let e = line_ended c.args.line.now c.args.f.used (omega (arith, c.requires)) in
-    begun_taken c.args.f _ _ c.args.out.now _ t.result e t.ensures c.requires.waits c.requires.output (search rules) _ refl refl refl refl
+    let e = line_ended c.args.line.now c.args.f.now.used (omega (arith, c.requires)) in
+    begun_taken c.args.f.now _ _ c.args.out.now _ _ e c.take_lines.ensures c.requires.waits c.requires.output (search rules) _ refl refl refl refl

@@ -28,8 +28,8 @@ loop-going-init c =
 pub slice_bounds-feed_block-end : goal.slice_bounds-feed_block-end
 slice_bounds-feed_block-end c = sym (length-take-le _ _ (omega (arith, c.loop-going.invariant.came, c.loop-going.invariant.block_long)))
 
-pub feed_block-t-requires : goal.feed_block-t-requires
-feed_block-t-requires c =
+pub feed_block-at-requires : goal.feed_block-at-requires
+feed_block-at-requires c =
     let l = c.loop-going in
     let v = l.invariant in (
       omega (arith, c.if-at-n.true, length-take l.n l.block, v.came, v.block_long),
@@ -39,25 +39,25 @@ feed_block-t-requires c =
 pub slice_bounds-out-end : goal.slice_bounds-out-end
 slice_bounds-out-end c =
     let loop = c.loop-going in
-    omega (arith, c.feed_block-t.ensures.room, c.feed_block-t.auto.out, loop.invariant.out_long)
+    omega (arith, c.feed_block-at.ensures.room, c.feed_block-at.auto.out, loop.invariant.out_long)
 
 pub slice_bounds-write_out-end : goal.slice_bounds-write_out-end
 slice_bounds-write_out-end c =
     let loop = c.loop-going in
-    sym (length-take-le _ _ (omega (arith, c.feed_block-t.ensures.room, c.feed_block-t.auto.out, loop.invariant.out_long)))
+    sym (length-take-le _ _ (omega (arith, c.feed_block-at.ensures.room, c.feed_block-at.auto.out, loop.invariant.out_long)))
 
 pub loop-going-smaller-then-at-n : goal.loop-going-smaller-then-at-n
 loop-going-smaller-then-at-n c =
     let if1 = c.if-at-n in
-    omega (arith, c.feed_block-t.ensures.onward, if1.true)
+    omega (arith, c.feed_block-at.ensures.onward, if1.true)
 
 pub loop-going-preserved-then-at-n : goal.loop-going-preserved-then-at-n
 loop-going-preserved-then-at-n c =
-    let b = c.feed_block-t in
+    let b = c.feed_block-at in
     let l = c.loop-going in
     let v = l.invariant in
     let g = c.loop-going-test.true in
-    rw c.emptied-f.ensures (record {
+    rw c.emptied.ensures (record {
       block_long = v.block_long;
       line_long = b.auto.line ∙ v.line_long;
       out_long = b.auto.out ∙ v.out_long;
@@ -65,7 +65,7 @@ loop-going-preserved-then-at-n c =
       waits = omega arith;
       came = v.came;
       written = λ e. refl;
-      goes = λ e. serving_fed (v.goes g) (take l.n l.block) l.at b.result _ _ refl b.ensures;
+      goes = λ e. serving_fed (v.goes g) (take l.n l.block) l.at (record { feed = b.new.f; at = b.result }) _ _ refl b.ensures;
       stops = λ e. not_both l.going g e;
     })
 
@@ -152,8 +152,8 @@ loop-going-preserved-in-NoMore c =
       stops = λ e. over_none (v.goes c.loop-going-test.true) u v.used v.line_long n.result (take n.result n.new.block) (length-take-le n.result n.new.block (omega (arith, n.auto.block, v.block_long))) p t;
     }
 
-pub take_begun-f-requires : goal.take_begun-f-requires
-take_begun-f-requires c =
+pub take_begun-requires : goal.take_begun-requires
+take_begun-requires c =
     let loop = c.loop-going in
     let v = loop.invariant in
     record { waits = omega (arith, v.written c.loop-going-test.true); output = v.out_long; begun = v.used; long = v.line_long }
@@ -172,7 +172,7 @@ loop-going-preserved c =
     let l = c.loop-going in
     let v = l.invariant in
     let k = c.to_ask-ask.ensures in
-    let b = c.take_begun-f in
+    let b = c.take_begun in
     let t = rw c.in-LastLine.is at tell.ensures in
     let u = used_up l.block l.n l.at (omega (arith, if1.false)) in
     let m : n.result ≤ 65536 = omega (arith, n.ensures, k.room) in
@@ -186,7 +186,7 @@ loop-going-preserved c =
       came = m;
       written = λ e. not_both false e refl;
       goes = λ e. not_both false e refl;
-      stops = λ e. over_last (v.goes c.loop-going-test.true) u v.used v.line_long n.result (take n.result n.new.block) (length-take-le n.result n.new.block (omega (arith, n.auto.block, v.block_long))) p t b.result _ b.ensures;
+      stops = λ e. over_last (v.goes c.loop-going-test.true) u v.used v.line_long n.result (take n.result n.new.block) (length-take-le n.result n.new.block (omega (arith, n.auto.block, v.block_long))) p t b.new.f _ b.ensures;
     }
 
 pub slice_bounds-out-end-2 : goal.slice_bounds-out-end-2
