@@ -1,12 +1,13 @@
 -- `last_sizes`: the last numbers of a form, and its closing bracket.
-use Rattle.std.proofs.Common.{◌≡◌, ◌+◌, ◌-◌, take, [], ◌∷◌, ◌++◌}
+use Rattle.std.proofs.Common.{◌≡◌, ◌+◌, ◌-◌, take, List, ℕ, [], ◌∷◌, ◌++◌}
 use native.Mathlib.Omega.{arith}
 use native.Mathlib.Numerals.{add-one}
-use mathlib.Core.Path.{sym, ◌∙◌}
+use mathlib.Core.Path.{sym, ap, ◌∙◌}
 use lib.ListN.{set, length-set, length-replicate}
 use lib.Seq.{take-suc-set, take_all}
 use Rattle.text.specs.Token.{tokens}
-use Rattle.items.proofs.Walks.{ahead_one, ahead_none, ahead_end, sizes, sizes_stop, sizes_next, sizes_last}
+use Rattle.items.specs.Grammar.{got}
+use Rattle.items.proofs.Walks.{ahead, ahead_one, ahead_none, ahead_end, sizes, sizes_stop, sizes_next, sizes_closed, sizes_unclosed}
 use Rattle.items.proofs.last_sizes.Goals as goal
 
 pub loop-value-init : goal.loop-value-init
@@ -39,13 +40,15 @@ loop-value-preserved g c =
 pub returns-in_err-close : goal.returns-in_err-close
 returns-in_err-close g c =
     let loop = c.loop-value in
-    let e : g.row.N - loop.value-index ≡ 0 = omega arith in
-    loop.invariant.read ∙ rw (e, sizes_last (tokens loop.rest.now), c.in_err-close.ensures, c.from_residual-in_err-close.ensures)
+    let vs = take loop.value-index loop.value-items in
+    rw c.from_residual-in_err-close.ensures (loop.invariant.read ∙ ap (ahead vs) (sizes_unclosed (g.row.N - loop.value-index) (tokens loop.rest.now) (omega arith) c.in_err-close.ensures))
 
 pub returns : goal.returns
 returns g c =
     let loop = c.loop-value in
-    let n = g.row.N in
-    let e : n - loop.value-index ≡ 0 = omega arith in
-    let t : take loop.value-index loop.value-items ≡ loop.value-items = take_all loop.value-index loop.value-items (omega arith) in
-    loop.invariant.read ∙ rw (e, sizes_last (tokens loop.rest.now), c.in_ok-close.ensures, t) (ahead_end loop.value-items (tokens c.in_ok-close.field-0.now))
+    let vs = take loop.value-index loop.value-items in
+    let us = tokens c.in_ok-close.field-0.now in
+    loop.invariant.read
+    ∙ ap (ahead vs) (sizes_closed (g.row.N - loop.value-index) (tokens loop.rest.now) us (omega arith) c.in_ok-close.ensures)
+    ∙ ahead_end vs us
+    ∙ ap (λ (xs : List ℕ). got xs us) (take_all loop.value-index loop.value-items (omega arith))
