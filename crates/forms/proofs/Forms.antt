@@ -31,36 +31,29 @@ NoHold (WeighingLine w) = Unit {0}
 -- ---- a request: a hold of parts that were read, or one without
 module _ (P : Request → Type 0) (Q : Mode → Part → Type 0) (part : (m : Mode) (ts : List Token) → Yields (Q m) (part? m ts)) (hold : (n : ℕ) (m : Mode) (factor : ℕ) (ps : List Part) → Several (Q m) 6 ps → P (HoldLine n (hold_record m factor ps))) (other : (r : Request) → NoHold r → P r) where
   parts_yield : (n : ℕ) (m : Mode) (ts : List Token) → Yields P (parts? n m ts)
-  unfolding parts?
   parts_yield n m ts =
       yields_then (number? ts) (λ factor us.
       yields_with (several_yield (Q m) (part? m) (part m) 6 us) (λ ps ws s. yields (hold n m factor ps s)))
 
   hold_yields : (ts : List Token) → Yields P (hold? ts)
-  unfolding hold?
   hold_yields ts = yields_then (number? ts) (λ n us. yields_then (run? us) (λ r ws. yields_behind (mode_named r) (parts_yield n) ws))
 
   ship_yields : (ts : List Token) → Yields P (ship? ts)
-  unfolding ship?
   ship_yields ts = yields_then (run? ts) (λ r us. yields_behind (rule_named r) (λ w vs. yields_then (last_numbers? 2 vs) (λ v ws. yields (other _ tt))) us)
 
   column_yields : (ts : List Token) → Yields P (column? ts)
-  unfolding column?
   column_yields ts =
       yields_then (number? ts) (λ d t1. yields_then (number? t1) (λ km t2. yields_then (open? t2) (λ u t3.
       yields_with (last_yield 10 t3) (λ kn t4 ten. yields_then (close? t4) (λ u t5. yields (other (ColumnLine _) ten))))))
 
   load_yields : (ts : List Token) → Yields P (load? ts)
-  unfolding load?
   load_yields ts =
       yields_then (number? ts) (λ d us. yields_then (last_numbers? 2 us) (λ v ws. yields (other _ tt)))
 
   drop_yields : (ts : List Token) → Yields P (drop? ts)
-  unfolding drop?
   drop_yields ts = yields_then (number? ts) (λ d us. yields_then (close? us) (λ u ws. yields (other _ tt)))
 
   pub bare_yields : (r : Request) → NoHold r → (ts : List Token) → Yields P (bare? r ts)
-  unfolding bare?
   bare_yields r h ts = yields_then (close? ts) (λ u us. yields (other r h))
 
   pub form_by_yields : (w : FormWord) (us : List Token) → Yields P (form_by w us)

@@ -36,14 +36,12 @@ hold_kept n mode factor xs = rw (map_padded carried_part 6 no_part xs)
 
 module _ (n : ℕ) (mode : Mode) (ts : List Token) (v : ℕ) (us : List Token) (factor : carry carried (number? ts) ≡ got v us) where
   pub parts_none : several? 6 (kept carried_part (part? mode)) us ≡ none → carry carried_request (parts? n mode ts) ≡ none
-  unfolding parts?
   parts_none e =
       let i = carries carried (number? ts) v us factor in
       rw i.is (several_unbuilt carried_part (part? mode) carried_request (λ ps. HoldLine n (hold_record mode i.read ps)) 6 us e)
 
   pub parts_read : (count : ℕ) (parts : List Part) (ws : Bor (List ℕ)) → count ≤ 6 → length parts ≡ 6 → Fills (several? 6 (kept carried_part (part? mode)) us) (replicate 6 no_part) parts (Some (count, ws)) →
       carry carried_request (parts? n mode ts) ≡ got (HoldLine n (record { head = record { mode = mode; factor = v; count = count }; parts = parts })) (tokens ws.now)
-  unfolding parts?
   parts_read count parts ws h l e =
       let i = carries carried (number? ts) v us factor in
       let front = filled 6 no_part count parts h l e.1 in
@@ -52,7 +50,6 @@ module _ (n : ℕ) (mode : Mode) (ts : List Token) (v : ℕ) (us : List Token) (
 
 -- a request that holds no numbers is carried as it is
 pub bare_kept : (r : Request) (ts : List Token) → carried_request r ≡ r → carry carried_request (bare? r ts) ≡ bare? r ts
-unfolding bare?
 bare_kept r ts e = by (close? ts)
   where
     by : (p : Parsed (Unit {0})) → carry carried_request (p and_then λ u us. got r us) ≡ (p and_then λ u us. got r us)

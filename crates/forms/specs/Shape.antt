@@ -32,11 +32,11 @@ ship_request w v = ShipLine (record { rule = rule_of w (nth v 0); flood = nth v 
 abbrev pub ship_by : RuleWord → List Token → Parsed Request
 ship_by w ts = last_numbers? 2 ts and_then λ v us. got (ship_request w v) us
 
-unfoldable pub ship? : List Token → Parsed Request
+abbrev pub ship? : List Token → Parsed Request
 ship? ts = run? ts and_then λ r us. behind? ship_by (rule_named r) us
 
 -- `D KM (K .. K))` behind `(column`
-unfoldable pub column? : List Token → Parsed Request
+abbrev pub column? : List Token → Parsed Request
 column? ts =
     number? ts and_then λ d t1.
     number? t1 and_then λ km t2.
@@ -46,7 +46,7 @@ column? ts =
     got (ColumnLine (record { d = d; km = km; kn = kn })) t5
 
 -- `D KG FS)` behind `(load`
-unfoldable pub load? : List Token → Parsed Request
+abbrev pub load? : List Token → Parsed Request
 load? ts =
     number? ts and_then λ d us.
     last_numbers? 2 us and_then λ v ws.
@@ -58,7 +58,7 @@ hold_record mode factor ps =
     record { head = record { mode = mode; factor = factor; count = length ps }; parts = padded 6 no_part ps }
 
 -- `SF PART ..)` behind the mode, with one to six parts
-unfoldable pub parts? : ℕ → Mode → List Token → Parsed Request
+abbrev pub parts? : ℕ → Mode → List Token → Parsed Request
 parts? n mode ts =
     number? ts and_then λ factor us.
     several? 6 (part? mode) us and_then λ ps ws.
@@ -68,18 +68,18 @@ parts? n mode ts =
 abbrev pub mode_named : List ℕ → Option Mode
 mode_named r = named (("trimmed", Some Trimmed) ∷ ("voided", Some Voided) ∷ ("partial", Some Partial) ∷ []) None r
 
-unfoldable pub hold? : List Token → Parsed Request
+abbrev pub hold? : List Token → Parsed Request
 hold? ts =
     number? ts and_then λ n us.
     run? us and_then λ r ws.
     behind? (parts? n) (mode_named r) ws
 
 -- `N)` behind `(drop`
-unfoldable pub drop? : List Token → Parsed Request
+abbrev pub drop? : List Token → Parsed Request
 drop? ts = number? ts and_then λ n us. close? us and_then λ u ws. got (DropLine n) ws
 
 -- `)` behind `(judge` and `(clear`
-unfoldable pub bare? : Request → List Token → Parsed Request
+abbrev pub bare? : Request → List Token → Parsed Request
 bare? r ts = close? ts and_then λ u us. got r us
 
 -- a form of document 01, by its first word: its word, and the shape of what stands behind it
@@ -106,5 +106,5 @@ form_by DropWord ts = drop? ts
 form_by JudgeWord ts = bare? JudgeLine ts
 form_by ClearWord ts = bare? ClearLine ts
 
-unfoldable pub form? : List Token → Parsed Request
+abbrev pub form? : List Token → Parsed Request
 form? ts = head? ts and_then λ r us. behind? form_by (form_word r) us

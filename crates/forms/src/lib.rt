@@ -9,6 +9,7 @@ ghost use Rattle.forms.specs.Shape.{rule_named, rule_of, ship?, column?, load?, 
 ghost use Rattle.forms.specs.Carried.{carried_request};
 
 use record::{Column, Head, Hold, Load, Mode, Rule, Ship, Weighing};
+use text::Read;
 
 // What a line asks for: which form it is, with its record.
 #[derive(Clone, Copy)]
@@ -25,15 +26,15 @@ pub enum Request {
     WeighingLine(Weighing),
 }
 
-// The word of a rule.
-#[derive(Clone, Copy)]
+// The word of a rule, apart from the edge behind it.
+#[derive(Clone, Copy, Debug, PartialEq, Eq)]
 pub enum RuleWord {
     NewWord,
     OldWord,
 }
 
-// The word of a form.
-#[derive(Clone, Copy)]
+// The word of a form, apart from what stands behind it: a show takes these words and no others.
+#[derive(Clone, Copy, Debug, PartialEq, Eq)]
 pub enum FormWord {
     ShipWord,
     ColumnWord,
@@ -46,18 +47,14 @@ pub enum FormWord {
 
 // ---- ships, loads, drops, columns
 
-// The word of a rule. Of a `match` on the bytes the proof has a goal for each byte at which two words part.
-#[tactic(auto, using(items::proofs::Words::named_here, items::proofs::Words::named_past, items::proofs::Words::named_none))]
+// The words of rules.
+const RULES: [(&[u8], RuleWord); 2] = [(b"new", RuleWord::NewWord), (b"old", RuleWord::OldWord)];
+
+#[tactic(auto, unfolding(items::specs::Grammar::named, items::specs::Reads::found))]
 fn rule_named(word: &[u8]) -> Option<RuleWord>
     ensures { result ≡ rule_named word.now }
 {
-    if word == b"new".as_slice() {
-        return Some(RuleWord::NewWord);
-    }
-    if word == b"old".as_slice() {
-        return Some(RuleWord::OldWord);
-    }
-    None
+    items::named(&RULES, word)
 }
 
 // The rule that its word and its edge make.
@@ -71,7 +68,7 @@ fn rule_of(word: RuleWord, edge: u16) -> Rule
 }
 
 // `RULE EDGE FLOOD)`
-fn ship<'a>(s: &'a [u8]) -> Option<(Request, &'a [u8])>
+fn ship(s: &[u8]) -> Read<'_, Request>
     ensures { carry carried_request (ship? (tokens s.now)) ≡ read_of result }
 {
     let (word, rest) = items::run(s)?;
@@ -85,7 +82,7 @@ fn ship<'a>(s: &'a [u8]) -> Option<(Request, &'a [u8])>
 }
 
 // `D KG FS)`
-fn load<'a>(s: &'a [u8]) -> Option<(Request, &'a [u8])>
+fn load(s: &[u8]) -> Read<'_, Request>
     ensures { carry carried_request (load? (tokens s.now)) ≡ read_of result }
 {
     let (d, rest) = items::number(s)?;
@@ -94,7 +91,8 @@ fn load<'a>(s: &'a [u8]) -> Option<(Request, &'a [u8])>
 }
 
 // `N)`
-fn drop<'a>(s: &'a [u8]) -> Option<(Request, &'a [u8])>
+#[tactic(auto, unfolding(crate::specs::Carried::carried_request))]
+fn drop(s: &[u8]) -> Read<'_, Request>
     ensures { carry carried_request (drop? (tokens s.now)) ≡ read_of result }
 {
     let (n, rest) = items::number(s)?;
@@ -103,7 +101,7 @@ fn drop<'a>(s: &'a [u8]) -> Option<(Request, &'a [u8])>
 }
 
 // `)`
-pub fn bare<'a>(request: Request, s: &'a [u8]) -> Option<(Request, &'a [u8])>
+pub fn bare(request: Request, s: &[u8]) -> Read<'_, Request>
     ensures { bare? request (tokens s.now) ≡ read_of result }
 {
     let rest = items::close(s)?;
@@ -111,7 +109,8 @@ pub fn bare<'a>(request: Request, s: &'a [u8]) -> Option<(Request, &'a [u8])>
 }
 
 // `D KM (K .. K))`
-fn column<'a>(s: &'a [u8]) -> Option<(Request, &'a [u8])>
+#[tactic(auto, unfolding(crate::specs::Carried::carried_request))]
+fn column(s: &[u8]) -> Read<'_, Request>
     ensures { carry carried_request (column? (tokens s.now)) ≡ read_of result }
 {
     let (d, rest) = items::number(s)?;
@@ -125,7 +124,7 @@ fn column<'a>(s: &'a [u8]) -> Option<(Request, &'a [u8])>
 // ---- a hold
 
 // `SF PART ..)`
-fn parts<'a>(n: u32, mode: Mode, s: &'a [u8]) -> Option<(Request, &'a [u8])>
+fn parts(n: u32, mode: Mode, s: &[u8]) -> Read<'_, Request>
     ensures { carry carried_request (parts? n mode (tokens s.now)) ≡ read_of result }
 {
     let (factor, rest) = items::size(s)?;
@@ -139,25 +138,22 @@ fn parts<'a>(n: u32, mode: Mode, s: &'a [u8]) -> Option<(Request, &'a [u8])>
     Some((Request::HoldLine(n, hold), rest))
 }
 
-// The word of a mode, found in the same way.
-#[tactic(auto, using(items::proofs::Words::named_here, items::proofs::Words::named_past, items::proofs::Words::named_none))]
+// The words of modes.
+const MODES: [(&[u8], Mode); 3] = [
+    (b"trimmed", Mode::Trimmed),
+    (b"voided", Mode::Voided),
+    (b"partial", Mode::Partial),
+];
+
+#[tactic(auto, unfolding(items::specs::Grammar::named, items::specs::Reads::found))]
 fn mode_named(word: &[u8]) -> Option<Mode>
     ensures { result ≡ mode_named word.now }
 {
-    if word == b"trimmed".as_slice() {
-        return Some(Mode::Trimmed);
-    }
-    if word == b"voided".as_slice() {
-        return Some(Mode::Voided);
-    }
-    if word == b"partial".as_slice() {
-        return Some(Mode::Partial);
-    }
-    None
+    items::named(&MODES, word)
 }
 
 // `N MODE SF PART ..)`
-fn hold<'a>(s: &'a [u8]) -> Option<(Request, &'a [u8])>
+fn hold(s: &[u8]) -> Read<'_, Request>
     ensures { carry carried_request (hold? (tokens s.now)) ≡ read_of result }
 {
     let (n, rest) = items::number(s)?;
@@ -168,37 +164,27 @@ fn hold<'a>(s: &'a [u8]) -> Option<(Request, &'a [u8])>
 
 // ---- a form by its word
 
-// The word of a form, found in the same way.
-#[tactic(auto, using(items::proofs::Words::named_here, items::proofs::Words::named_past, items::proofs::Words::named_none))]
+// The words of forms.
+const FORMS: [(&[u8], FormWord); 7] = [
+    (b"ship", FormWord::ShipWord),
+    (b"column", FormWord::ColumnWord),
+    (b"load", FormWord::LoadWord),
+    (b"hold", FormWord::HoldWord),
+    (b"drop", FormWord::DropWord),
+    (b"judge", FormWord::JudgeWord),
+    (b"clear", FormWord::ClearWord),
+];
+
+#[tactic(auto, unfolding(items::specs::Grammar::named, items::specs::Reads::found))]
 pub fn form_word(word: &[u8]) -> Option<FormWord>
     ensures { result ≡ form_word word.now }
 {
-    if word == b"ship".as_slice() {
-        return Some(FormWord::ShipWord);
-    }
-    if word == b"column".as_slice() {
-        return Some(FormWord::ColumnWord);
-    }
-    if word == b"load".as_slice() {
-        return Some(FormWord::LoadWord);
-    }
-    if word == b"hold".as_slice() {
-        return Some(FormWord::HoldWord);
-    }
-    if word == b"drop".as_slice() {
-        return Some(FormWord::DropWord);
-    }
-    if word == b"judge".as_slice() {
-        return Some(FormWord::JudgeWord);
-    }
-    if word == b"clear".as_slice() {
-        return Some(FormWord::ClearWord);
-    }
-    None
+    items::named(&FORMS, word)
 }
 
 // What stands behind a form's word.
-pub fn form_by<'a>(word: FormWord, s: &'a [u8]) -> Option<(Request, &'a [u8])>
+#[tactic(auto, using(crate::proofs::Records::bare_kept), unfolding(crate::specs::Carried::carried_request))]
+pub fn form_by(word: FormWord, s: &[u8]) -> Read<'_, Request>
     ensures { carry carried_request (form_by word (tokens s.now)) ≡ read_of result }
 {
     match word {

@@ -67,13 +67,14 @@ module _ (k : ℕ) (ts : List Token) where
       go (suc k) h = let a : suc k - 1 ≡ k = omega arith in sizes_suc k ts ∙ rw (e, a)
 
 -- the closing bracket behind the last of them
-pub sizes_last : (ts : List Token) → sizes 0 ts ≡ carry (λ u. []) (close? ts)
-unfolding last_numbers? numbers?
-sizes_last ts = by (close? ts)
-  where
-    by : (c : Parsed (Unit {0})) → carry (map carried) (c and_then λ u ws. got [] ws) ≡ carry (λ u. []) c
-    by (got u ws) = refl
-    by none = refl
+module _ (k : ℕ) (ts : List Token) where
+  pub sizes_closed : (us : List Token) → k ≡ 0 → close? ts ≡ got tt us → sizes k ts ≡ got [] us
+  unfolding last_numbers? numbers?
+  sizes_closed us e f = rw (e, f)
+
+  pub sizes_unclosed : k ≡ 0 → close? ts ≡ none → sizes k ts ≡ none
+  unfolding last_numbers? numbers?
+  sizes_unclosed e f = rw (e, f)
 
 -- ---- what was read, and what it is carried as
 abbrev value_or : {A : Type 0} → A → Parsed A → A

@@ -15,27 +15,27 @@ got a ts and_then f = f a ts
 none and_then f = none
 
 -- a bracket
-unfoldable pub open? : List Token → Parsed (Unit {0})
+abbrev pub open? : List Token → Parsed (Unit {0})
 open? [] = none
 open? (opened ∷ ts) = got tt ts
 open? (closed ∷ ts) = none
 open? (run r ∷ ts) = none
 
-unfoldable pub close? : List Token → Parsed (Unit {0})
+abbrev pub close? : List Token → Parsed (Unit {0})
 close? [] = none
 close? (opened ∷ ts) = none
 close? (closed ∷ ts) = got tt ts
 close? (run r ∷ ts) = none
 
 -- a run
-unfoldable pub run? : List Token → Parsed (List ℕ)
+abbrev pub run? : List Token → Parsed (List ℕ)
 run? [] = none
 run? (opened ∷ ts) = none
 run? (closed ∷ ts) = none
 run? (run r ∷ ts) = got r ts
 
 -- a form's opening bracket and the run behind it
-unfoldable pub head? : List Token → Parsed (List ℕ)
+abbrev pub head? : List Token → Parsed (List ℕ)
 head? ts = open? ts and_then λ u us. run? us
 
 -- this word
@@ -53,7 +53,7 @@ behind? shape (Some w) ts = shape w ts
 behind? shape None ts = none
 
 -- a number
-unfoldable pub number? : List Token → Parsed ℕ
+abbrev pub number? : List Token → Parsed ℕ
 number? ts = run? ts and_then λ r us. behind? got (number_of r) us
 
 -- k numbers

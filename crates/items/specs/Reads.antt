@@ -1,8 +1,8 @@
 -- What each reading step answers, said of the tokens that are left of the line. Left free, since no answer to a line depends on it: how many of the
 -- spaces in front of the next token are still left.
-use Rattle.std.specs.Prelude.{◌≡◌, take, drop, Bool, true, false, List, [], ◌∷◌, ℕ, Option, Some, None}
+use Rattle.std.specs.Prelude.{◌≡◌, take, drop, Bool, true, false, cond, List, [], ◌∷◌, ℕ, Option, Some, None}
 use Rattle.std.specs.Borrow.{Bor}
-use Rattle.text.specs.Token.{Token, tokens}
+use Rattle.text.specs.Token.{Token, tokens, same}
 use Rattle.items.specs.Grammar.{Parsed, got, none}
 
 -- a was read, and these bytes are left behind it
@@ -28,6 +28,11 @@ ReadsBy answers item? = (s : Bor (List ℕ)) (r : _) → answers s r → item? (
 abbrev pub Fills : {A : Type 0} → Parsed (List A) → (old new : List A) → Option (ℕ × Bor (List ℕ)) → Type 0
 Fills p old new (Some (n, rest)) = (p ≡ got (take n new) (tokens rest.now)) × (drop n new ≡ drop n old)
 Fills p old new None = p ≡ none
+
+-- what a word stands for, by a table whose words are the program's own slices
+unfoldable pub found : {A : Type 0} → List (Bor (List ℕ) × A) → List ℕ → Option A
+found [] r = None
+found ((w, a) ∷ table) r = cond (same r w.now) (Some a) (found table r)
 
 -- nothing is left
 unfoldable pub is_end : List Token → Bool

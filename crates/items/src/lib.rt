@@ -5,12 +5,12 @@ ghost use Rattle.std.specs.Prelude.{◌≡◌, map, ◌≤◌, length, IfSome, L
 ghost use Rattle.text.specs.Token.{Token, tokens};
 ghost use Rattle.items.specs.Grammar.{Parsed, open?, close?, run?, head?, number?, last_numbers?, several?};
 ghost use Rattle.items.specs.Carried.{carry, carried};
-ghost use Rattle.items.specs.Reads.{is_end, passed_of, run_of, read_of, ReadsBy, Fills};
+ghost use Rattle.items.specs.Reads.{is_end, found, passed_of, run_of, read_of, ReadsBy, Fills};
 
-use text::Piece;
+use text::{Piece, Read};
 
 // An opening bracket.
-pub fn open<'a>(s: &'a [u8]) -> Option<&'a [u8]>
+pub fn open(s: &[u8]) -> Option<&[u8]>
     ensures { open? (tokens s.now) ≡ passed_of result }
 {
     match text::first_piece(s)? {
@@ -20,7 +20,7 @@ pub fn open<'a>(s: &'a [u8]) -> Option<&'a [u8]>
 }
 
 // A closing bracket.
-pub fn close<'a>(s: &'a [u8]) -> Option<&'a [u8]>
+pub fn close(s: &[u8]) -> Option<&[u8]>
     ensures { close? (tokens s.now) ≡ passed_of result }
 {
     match text::first_piece(s)? {
@@ -30,7 +30,7 @@ pub fn close<'a>(s: &'a [u8]) -> Option<&'a [u8]>
 }
 
 // A run.
-pub fn run<'a>(s: &'a [u8]) -> Option<(&'a [u8], &'a [u8])>
+pub fn run(s: &[u8]) -> Read<'_, &[u8]>
     ensures { run? (tokens s.now) ≡ run_of result }
 {
     match text::first_piece(s)? {
@@ -40,7 +40,7 @@ pub fn run<'a>(s: &'a [u8]) -> Option<(&'a [u8], &'a [u8])>
 }
 
 // A form's opening bracket and the run behind it.
-pub fn head<'a>(s: &'a [u8]) -> Option<(&'a [u8], &'a [u8])>
+pub fn head(s: &[u8]) -> Read<'_, &[u8]>
     ensures { head? (tokens s.now) ≡ run_of result }
 {
     let rest = open(s)?;
@@ -48,7 +48,7 @@ pub fn head<'a>(s: &'a [u8]) -> Option<(&'a [u8], &'a [u8])>
 }
 
 // A number.
-pub fn number<'a>(s: &'a [u8]) -> Option<(u32, &'a [u8])>
+pub fn number(s: &[u8]) -> Read<'_, u32>
     ensures { number? (tokens s.now) ≡ read_of result }
 {
     let (word, rest) = run(s)?;
@@ -64,7 +64,7 @@ fn as_field(v: u32) -> u16
 }
 
 // A number as its field carries it.
-pub fn size<'a>(s: &'a [u8]) -> Option<(u16, &'a [u8])>
+pub fn size(s: &[u8]) -> Read<'_, u16>
     ensures { carry carried (number? (tokens s.now)) ≡ read_of result }
 {
     let (v, rest) = number(s)?;
@@ -72,26 +72,26 @@ pub fn size<'a>(s: &'a [u8]) -> Option<(u16, &'a [u8])>
 }
 
 // The last numbers of a form, and its closing bracket.
-pub fn last_sizes<'a, const N: usize>(s: &'a [u8]) -> Option<([u16; N], &'a [u8])>
+pub fn last_sizes<const N: usize>(s: &[u8]) -> Read<'_, [u16; N]>
     ensures { carry (map carried) (last_numbers? N (tokens s.now)) ≡ read_of result }
 {
     let mut values = [0u16; N];
     let mut rest = s;
-    for i in 0..N {
+    for value in &mut values {
         let (v, behind) = size(rest)?;
-        values[i] = v;
+        *value = v;
         rest = behind;
     }
     Some((values, close(rest)?))
 }
 
 // The last items of a form, at least one and at most as many as there are places, and its closing bracket: how many there are, each in its place.
-// No `for` over the places: the items end at a closing bracket, of which the places say nothing.
-pub fn several<'a, T: Copy, F: Fn(&'a [u8]) -> Option<(T, &'a [u8])>>(
+// A `for` over the places is no plainer: it needs a `return` at a bracket inside, and the same answer once more behind it, where all places are full.
+pub fn several<'a, T: Copy, F: Fn(&'a [u8]) -> Read<'a, T>>(
     s: &'a [u8],
     places: &mut [T],
     item: F,
-) -> Option<(usize, &'a [u8])>
+) -> Read<'a, usize>
     requires { F.IsAlwaysCallable item }
     ensures count { IfSome result (λ r. r.0 ≤ length places.old) }
     ensures filled { (item? : List Token → Parsed T) → ReadsBy (F.post item) item? → Fills (several? (length places.old) item? (tokens s.now)) places.old places.new result }
@@ -109,6 +109,18 @@ pub fn several<'a, T: Copy, F: Fn(&'a [u8]) -> Option<(T, &'a [u8])>>(
         return None;
     }
     Some((n, behind))
+}
+
+// What a word stands for, by a table of words.
+pub fn named<T: Copy>(table: &[(&[u8], T)], word: &[u8]) -> Option<T>
+    ensures { result ≡ found table.now word.now }
+{
+    for (name, kind) in table {
+        if word == *name {
+            return Some(*kind);
+        }
+    }
+    None
 }
 
 // Whether no token is left.

@@ -23,7 +23,7 @@ const DEEPEST_IN_SHOW: usize = 5;
 const SHOW: &[u8] = b"show";
 
 // Why a line is turned down: a test of the whole line, in their order, or that it is none of the shapes.
-#[derive(Clone, Copy)]
+#[derive(Clone, Copy, Debug, PartialEq, Eq)]
 pub enum Fault {
     TooLong,
     BadByte,
@@ -114,17 +114,11 @@ fn one_form(s: &[u8]) -> Result<(), Fault>
 {
     let most = deepest(s);
     let mut part = Part::Before;
-    let mut left = s;
-    while let Some((piece, rest)) = text::first_piece(left) {
-        let Some(next) = behind(most, part, piece) else {
-            return Err(Fault::NotOneForm);
-        };
-        part = next;
-        left = rest;
+    for piece in text::pieces_of(s) {
+        part = behind(most, part, piece).ok_or(Fault::NotOneForm)?;
     }
     match part {
-        Part::Before => Err(Fault::NotOneForm),
-        Part::Inside(_) => Err(Fault::NotOneForm),
+        Part::Before | Part::Inside(_) => Err(Fault::NotOneForm),
         Part::Behind => Ok(()),
     }
 }
@@ -153,12 +147,10 @@ fn is_sound(piece: Piece<'_>) -> bool
 fn all_sound(s: &[u8]) -> Result<(), Fault>
     ensures { result ≡ tested BadNumber (all sound_token (tokens s.now)) }
 {
-    let mut left = s;
-    while let Some((piece, tail)) = text::first_piece(left) {
+    for piece in text::pieces_of(s) {
         if !is_sound(piece) {
             return Err(Fault::BadNumber);
         }
-        left = tail;
     }
     Ok(())
 }

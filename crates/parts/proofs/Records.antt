@@ -28,7 +28,6 @@ cell_kept VoidWord vs x e = rw (nth_kept vs x 0 e, nth_kept vs x 1 e, nth_kept v
 
 pub cell_read : (ts : List Token) (r : List ℕ) (us : List Token) (w : CellWord) (vs : List ℕ) (ws : List Token) → head? ts ≡ got r us → cell_named r ≡ Some w →
     carry (map carried) (last_numbers? (numbers_of w) us) ≡ got vs ws → carry carried_cell (cell? ts) ≡ got (cell_of w vs) ws
-unfolding cell?
 cell_read ts r us w vs ws h n e = rw (h, n) (built carried_cell (cell_of w) (map carried) (last_numbers? (numbers_of w) us) vs ws (cell_of w vs) e (cell_kept w vs))
 
 -- filled places, as they are carried
@@ -53,14 +52,12 @@ section_kept v xs = rw (map_padded carried_cell 8 no_cell xs)
 
 module _ (ts : List Token) (v : ℕ) (us : List Token) (long : carry carried (number? ts) ≡ got v us) where
   pub section_none : several? 8 (kept carried_cell cell?) us ≡ none → carry carried_part (section? ts) ≡ none
-  unfolding section?
   section_none e =
       let i = carries carried (number? ts) v us long in
       rw i.is (several_unbuilt carried_cell cell? carried_part (section_record i.read) 8 us e)
 
   pub section_read : (n : ℕ) (cells : List Cell) (ws : Bor (List ℕ)) → n ≤ 8 → length cells ≡ 8 → Fills (several? 8 (kept carried_cell cell?) us) (replicate 8 no_cell) cells (Some (n, ws)) →
       carry carried_part (section? ts) ≡ got (record { length = v; breadth = 0; void = 0; grain = 0; count = n; cells = cells }) (tokens ws.now)
-  unfolding section?
   section_read n cells ws h l e =
       let i = carries carried (number? ts) v us long in
       let front = filled 8 no_cell n cells h l e.1 in

@@ -18,7 +18,7 @@ use Rattle.text.specs.Token.{Token}
 use Rattle.items.specs.Grammar.{head?, is, number?, last_numbers?}
 use Rattle.items.proofs.Kept.{kept_more}
 use Rattle.items.proofs.Yields.{Yields, yields, nothing, yields_with, yields_then, yields_if, anything, Each, several_yield}
-use Rattle.parts.specs.Shape.{section_record, slack_record, cell?, section?, slack?, body?, part?}
+use Rattle.parts.specs.Shape.{section_record, slack_record, cell?, section?, body?, part?}
 use Rattle.parts.specs.Carried.{carried_cell, carried_part}
 use Rattle.parts.proofs.Records.{map_padded}
 use Rattle.parts.proofs.Kept.{kept_section, kept_slack}
@@ -26,19 +26,16 @@ use Rattle.parts.proofs.Kept.{kept_section, kept_slack}
 -- ---- a part, by its mode
 module _ (Q : Mode → Part → Type 0) (trimmed : (v : ℕ) (cs : List Cell) → length cs ≤ 8 → Q Trimmed (section_record v cs)) (voided : (v : ℕ) (cs : List Cell) → length cs ≤ 8 → Q Voided (section_record v cs)) (partial : (v : List ℕ) → Q Partial (slack_record v)) where
   section_yields : {S : Part → Type 0} → ((v : ℕ) (cs : List Cell) → length cs ≤ 8 → S (section_record v cs)) → (ts : List Token) → Yields S (section? ts)
-  unfolding section?
   section_yields s ts =
       yields_then (number? ts) (λ v us.
       yields_with (several_yield (λ c. Unit {0}) cell? (λ ts. anything (cell? ts)) 8 us) (λ cs ws n. yields (s v cs n.most)))
 
   body_yields : (m : Mode) (ts : List Token) → Yields (Q m) (body? m ts)
-  unfolding body? slack?
   body_yields Trimmed ts = section_yields trimmed ts
   body_yields Voided ts = section_yields voided ts
   body_yields Partial ts = yields_then (last_numbers? 4 ts) (λ v us. yields (partial v))
 
   pub part_yields : (m : Mode) (ts : List Token) → Yields (Q m) (part? m ts)
-  unfolding part?
   part_yields m ts = yields_then (head? ts) (λ r us. yields_if (is r "part") (body_yields m us) nothing)
 
 -- ---- an array keeps its fillers if the filler is kept

@@ -30,7 +30,7 @@ cell_of VoidWord v = Void (nth v 0) (nth v 1) (nth v 2)
 abbrev pub cell_by : CellWord → List Token → Parsed Cell
 cell_by w ts = last_numbers? (numbers_of w) ts and_then λ v us. got (cell_of w v) us
 
-unfoldable pub cell? : List Token → Parsed Cell
+abbrev pub cell? : List Token → Parsed Cell
 cell? ts = head? ts and_then λ r us. behind? cell_by (cell_named r) us
 
 -- a part of cells, and a part of four sizes; unused places are filled, so that equal records are equal values
@@ -50,21 +50,21 @@ slack_record v =
     record { length = nth v 0; breadth = nth v 1; void = nth v 2; grain = nth v 3; count = 0; cells = padded 8 no_cell [] }
 
 -- `LENGTH CELL ..)` behind `(part`, with one to eight cells
-unfoldable pub section? : List Token → Parsed Part
+abbrev pub section? : List Token → Parsed Part
 section? ts =
     number? ts and_then λ v us.
     several? 8 cell? us and_then λ cs ws.
     got (section_record v cs) ws
 
 -- `LENGTH BREADTH VOID GRAIN)` behind `(part`
-unfoldable pub slack? : List Token → Parsed Part
+abbrev pub slack? : List Token → Parsed Part
 slack? ts = last_numbers? 4 ts and_then λ v us. got (slack_record v) us
 
 -- the parts go by the mode
-unfoldable pub body? : Mode → List Token → Parsed Part
+abbrev pub body? : Mode → List Token → Parsed Part
 body? Trimmed ts = section? ts
 body? Voided ts = section? ts
 body? Partial ts = slack? ts
 
-unfoldable pub part? : Mode → List Token → Parsed Part
+abbrev pub part? : Mode → List Token → Parsed Part
 part? mode ts = head? ts and_then λ r us. cond (is r "part") (body? mode us) none

@@ -9,9 +9,11 @@ ghost use Rattle.parts.specs.Shape.{cell_named, cell?, section?, slack?, body?, 
 ghost use Rattle.parts.specs.Carried.{carried_cell, carried_part};
 
 use record::{Cell, Mode, Part};
+use text::Read;
 
-// The word of a cell.
-#[derive(Clone, Copy)]
+// The word of a cell, apart from the sizes behind it, as document 01's shapes have it. A table of words and functions that read on would hand out a
+// function pointer, which the gate refuses.
+#[derive(Clone, Copy, Debug, PartialEq, Eq)]
 pub enum CellWord {
     WingWord,
     HatchWord,
@@ -20,25 +22,22 @@ pub enum CellWord {
 
 // ---- cells
 
-// The word of a cell. Of a `match` on the bytes the proof has a goal for each byte at which two words part.
-#[tactic(auto, using(items::proofs::Words::named_here, items::proofs::Words::named_past, items::proofs::Words::named_none))]
+// The words of cells.
+const CELLS: [(&[u8], CellWord); 3] = [
+    (b"wing", CellWord::WingWord),
+    (b"hatch", CellWord::HatchWord),
+    (b"void", CellWord::VoidWord),
+];
+
+#[tactic(auto, unfolding(items::specs::Grammar::named, items::specs::Reads::found))]
 fn cell_named(word: &[u8]) -> Option<CellWord>
     ensures { result ≡ cell_named word.now }
 {
-    if word == b"wing".as_slice() {
-        return Some(CellWord::WingWord);
-    }
-    if word == b"hatch".as_slice() {
-        return Some(CellWord::HatchWord);
-    }
-    if word == b"void".as_slice() {
-        return Some(CellWord::VoidWord);
-    }
-    None
+    items::named(&CELLS, word)
 }
 
 // A cell, by its word.
-fn cell<'a>(s: &'a [u8]) -> Option<(Cell, &'a [u8])>
+fn cell(s: &[u8]) -> Read<'_, Cell>
     ensures { carry carried_cell (cell? (tokens s.now)) ≡ read_of result }
 {
     let (word, rest) = items::head(s)?;
@@ -73,19 +72,19 @@ fn cell<'a>(s: &'a [u8]) -> Option<(Cell, &'a [u8])>
 // ---- parts
 
 // `LENGTH CELL ..)`. The filler of a part has eight fillers of a cell.
-fn section<'a>(s: &'a [u8]) -> Option<(Part, &'a [u8])>
+fn section(s: &[u8]) -> Read<'_, Part>
     ensures { carry carried_part (section? (tokens s.now)) ≡ read_of result }
 {
     let (length, rest) = items::size(s)?;
     let mut part = record::no_part();
     part.length = length;
-    let (count, rest) = items::several(rest, &mut part.cells, |t| cell(t))?;
+    let (count, rest) = items::several(rest, &mut part.cells, cell)?;
     part.count = count as u8;
     Some((part, rest))
 }
 
 // `LENGTH BREADTH VOID GRAIN)`
-fn slack<'a>(s: &'a [u8]) -> Option<(Part, &'a [u8])>
+fn slack(s: &[u8]) -> Read<'_, Part>
     ensures { carry carried_part (slack? (tokens s.now)) ≡ read_of result }
 {
     let ([length, breadth, void, grain], rest) = items::last_sizes::<4>(s)?;
@@ -100,7 +99,7 @@ fn slack<'a>(s: &'a [u8]) -> Option<(Part, &'a [u8])>
 }
 
 // The parts go by the mode.
-fn body<'a>(mode: Mode, s: &'a [u8]) -> Option<(Part, &'a [u8])>
+fn body(mode: Mode, s: &[u8]) -> Read<'_, Part>
     ensures { carry carried_part (body? mode (tokens s.now)) ≡ read_of result }
 {
     match mode {
@@ -110,7 +109,7 @@ fn body<'a>(mode: Mode, s: &'a [u8]) -> Option<(Part, &'a [u8])>
 }
 
 // A part of a hold of this mode, by its word.
-pub fn part<'a>(mode: Mode, s: &'a [u8]) -> Option<(Part, &'a [u8])>
+pub fn part(mode: Mode, s: &[u8]) -> Read<'_, Part>
     ensures { carry carried_part (part? mode (tokens s.now)) ≡ read_of result }
 {
     let (word, rest) = items::head(s)?;

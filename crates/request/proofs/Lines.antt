@@ -15,16 +15,14 @@ use Rattle.forms.specs.Shape.{hold_record, form?}
 use Rattle.forms.proofs.Forms.{NoHold, bare_yields, form_by_yields}
 use Rattle.request.specs.declared.LineWord.{LineWord}
 use Rattle.request.specs.declared.LineWord.TheVariants.{OfForm, TotalWord, WeightWord, WeighedWord, UnweighWord}
-use Rattle.request.specs.Shape.{show?, weight?, weighed?, line_word, line_by, line?, request_of}
+use Rattle.request.specs.Shape.{show?, line_word, line_by, line?, request_of}
 
 -- ---- a request: a hold of parts that were read, or one without
 module _ (P : Request → Type 0) (Q : Mode → Part → Type 0) (part : (m : Mode) (ts : List Token) → Yields (Q m) (part? m ts)) (hold : (n : ℕ) (m : Mode) (factor : ℕ) (ps : List Part) → Several (Q m) 6 ps → P (HoldLine n (hold_record m factor ps))) (other : (r : Request) → NoHold r → P r) where
   show_yields : (ts : List Token) → Yields P (show? ts)
-  unfolding show?
   show_yields ts = yields_then (form? ts) (λ r us. bare_yields P Q part hold other _ tt us)
 
   line_by_yields : (w : LineWord) (us : List Token) → Yields P (line_by w us)
-  unfolding weight? weighed?
   line_by_yields (OfForm w) us = form_by_yields P Q part hold other w us
   line_by_yields TotalWord us = bare_yields P Q part hold other _ tt us
   line_by_yields WeightWord us =
@@ -33,7 +31,6 @@ module _ (P : Request → Type 0) (Q : Mode → Part → Type 0) (part : (m : Mo
   line_by_yields UnweighWord us = bare_yields P Q part hold other _ tt us
 
   line_yields : (ts : List Token) → Yields P (line? ts)
-  unfolding line?
   line_yields ts = yields_then (head? ts) (λ r us. yields_if (is r "show") (show_yields us) (yields_behind (line_word r) line_by_yields us))
 
   pub request_has : (ts : List Token) (r : Request) → request_of ts ≡ Some r → P r

@@ -12,17 +12,17 @@ use Rattle.request.specs.declared.LineWord.{LineWord}
 use Rattle.request.specs.declared.LineWord.TheVariants.{OfForm, TotalWord, WeightWord, WeighedWord, UnweighWord}
 
 -- `FORM)` behind `(show`: any of document 01's forms
-unfoldable pub show? : List Token → Parsed Request
+abbrev pub show? : List Token → Parsed Request
 show? ts = form? ts and_then λ r us. bare? ShowLine us
 
 -- document 02, P5: `T H)` behind `(weight`, and `FS)` behind `(weighed`
-unfoldable pub weight? : List Token → Parsed Request
+abbrev pub weight? : List Token → Parsed Request
 weight? ts =
     number? ts and_then λ t us.
     last_numbers? 1 us and_then λ v ws.
     got (WeighingLine (Weight (record { tonnes = t; height = nth v 0 }))) ws
 
-unfoldable pub weighed? : List Token → Parsed Request
+abbrev pub weighed? : List Token → Parsed Request
 weighed? ts = last_numbers? 1 ts and_then λ v us. got (WeighingLine (Weighed (nth v 0))) us
 
 -- a line but show, by its first word: the lines that no show takes, and document 01's forms; and the shape of what stands behind the word
@@ -40,7 +40,7 @@ line_by WeighedWord ts = weighed? ts
 line_by UnweighWord ts = bare? (WeighingLine Unweigh) ts
 
 -- a line: a show of a form, or by its first word
-unfoldable pub line? : List Token → Parsed Request
+abbrev pub line? : List Token → Parsed Request
 line? ts = head? ts and_then λ r us. cond (is r "show") (show? us) (behind? line_by (line_word r) us)
 
 -- the request of a line's tokens; none where they are no shape

@@ -10,9 +10,10 @@ ghost use Rattle.request.specs.Shape.{show?, weight?, weighed?, line_word, line_
 
 use forms::{FormWord, Request};
 use record::{Weighing, WeightItem};
+use text::Read;
 
-// A line but show by its word: one of document 01's forms, or one that no show takes.
-#[derive(Clone, Copy)]
+// A line but show by its word, apart from what stands behind it: one of document 01's forms, or one that no show takes.
+#[derive(Clone, Copy, Debug, PartialEq, Eq)]
 pub enum LineWord {
     OfForm(FormWord),
     TotalWord,
@@ -22,7 +23,7 @@ pub enum LineWord {
 }
 
 // `FORM)`. The form's record is not kept.
-fn show<'a>(s: &'a [u8]) -> Option<(Request, &'a [u8])>
+fn show(s: &[u8]) -> Read<'_, Request>
     ensures { carry carried_request (show? (tokens s.now)) ≡ read_of result }
 {
     let (word, behind) = items::head(s)?;
@@ -32,7 +33,7 @@ fn show<'a>(s: &'a [u8]) -> Option<(Request, &'a [u8])>
 }
 
 // `T H)`
-fn weight<'a>(s: &'a [u8]) -> Option<(Request, &'a [u8])>
+fn weight(s: &[u8]) -> Read<'_, Request>
     ensures { carry carried_request (weight? (tokens s.now)) ≡ read_of result }
 {
     let (tonnes, rest) = items::number(s)?;
@@ -42,35 +43,31 @@ fn weight<'a>(s: &'a [u8]) -> Option<(Request, &'a [u8])>
 }
 
 // `FS)`
-fn weighed<'a>(s: &'a [u8]) -> Option<(Request, &'a [u8])>
+fn weighed(s: &[u8]) -> Read<'_, Request>
     ensures { carry carried_request (weighed? (tokens s.now)) ≡ read_of result }
 {
     let ([fs], rest) = items::last_sizes::<1>(s)?;
     Some((Request::WeighingLine(Weighing::Weighed(fs)), rest))
 }
 
-// A line but show by its word. Of a `match` on the bytes the proof has a goal for each byte at which two words part.
-#[tactic(auto, using(items::proofs::Words::named_here, items::proofs::Words::named_past, items::proofs::Words::named_other))]
+// The words of lines but show and document 01's forms.
+const LINES: [(&[u8], LineWord); 4] = [
+    (b"total", LineWord::TotalWord),
+    (b"weight", LineWord::WeightWord),
+    (b"weighed", LineWord::WeighedWord),
+    (b"unweigh", LineWord::UnweighWord),
+];
+
+#[tactic(auto, unfolding(items::specs::Grammar::named, items::specs::Reads::found))]
 fn line_word(word: &[u8]) -> Option<LineWord>
     ensures { result ≡ line_word word.now }
 {
-    if word == b"total".as_slice() {
-        return Some(LineWord::TotalWord);
-    }
-    if word == b"weight".as_slice() {
-        return Some(LineWord::WeightWord);
-    }
-    if word == b"weighed".as_slice() {
-        return Some(LineWord::WeighedWord);
-    }
-    if word == b"unweigh".as_slice() {
-        return Some(LineWord::UnweighWord);
-    }
-    forms::form_word(word).map(|form| LineWord::OfForm(form))
+    items::named(&LINES, word).or_else(|| forms::form_word(word).map(LineWord::OfForm))
 }
 
 // What stands behind a line's word.
-fn line_by<'a>(word: LineWord, s: &'a [u8]) -> Option<(Request, &'a [u8])>
+#[tactic(auto, using(forms::proofs::Records::bare_kept), unfolding(forms::specs::Carried::carried_request))]
+fn line_by(word: LineWord, s: &[u8]) -> Read<'_, Request>
     ensures { carry carried_request (line_by word (tokens s.now)) ≡ read_of result }
 {
     match word {
@@ -83,7 +80,7 @@ fn line_by<'a>(word: LineWord, s: &'a [u8]) -> Option<(Request, &'a [u8])>
 }
 
 // A line: a show of a form, or by its word.
-fn read_line<'a>(s: &'a [u8]) -> Option<(Request, &'a [u8])>
+fn read_line(s: &[u8]) -> Read<'_, Request>
     ensures { carry carried_request (line? (tokens s.now)) ≡ read_of result }
 {
     let (word, rest) = items::head(s)?;

@@ -19,10 +19,10 @@ use Rattle.forms.specs.declared.FormWord.{FormWord}
 use Rattle.forms.specs.declared.FormWord.TheVariants.{ShipWord, ColumnWord, LoadWord, HoldWord, DropWord, JudgeWord, ClearWord}
 use Rattle.forms.specs.declared.Request.TheVariants.{ShipLine, ColumnLine, LoadLine, HoldLine, DropLine, JudgeLine, ClearLine, ShowLine, TotalLine, WeighingLine}
 use Rattle.forms.specs.declared.Request.{Request}
-use Rattle.forms.specs.Shape.{rule_named, ship_by, ship?, column?, load?, mode_named, parts?, hold?, drop?, bare?, form_word, form_by, form?}
+use Rattle.forms.specs.Shape.{rule_named, ship_by, mode_named, parts?, form_word, form_by, form?}
 use Rattle.request.specs.declared.LineWord.{LineWord}
 use Rattle.request.specs.declared.LineWord.TheVariants.{OfForm, TotalWord, WeightWord, WeighedWord, UnweighWord}
-use Rattle.request.specs.Shape.{show?, weight?, weighed?, line_word, line_by, line?, request_of}
+use Rattle.request.specs.Shape.{show?, line_word, line_by, line?, request_of}
 use Rattle.showing.specs.Laws.{OfDocument01, ship, column, load, hold, drop, judge, clear, ShowOf}
 use Rattle.showing.proofs.Framing.{clash, form_frames}
 
@@ -31,14 +31,12 @@ abbrev Of01 : Request → Type 0
 Of01 r = OfDocument01 (Some r)
 
 hold_by : (n : ℕ) (m : Mode) (ts : List Token) → Yields Of01 (parts? n m ts)
-unfolding parts?
 hold_by n m ts = yields_then (number? ts) (λ f us. yields_then (several? 6 (part? m) us) (λ ps ws. yields hold))
 
 ship_by_lem : (w : RuleWord) (ts : List Token) → Yields Of01 (ship_by w ts)
 ship_by_lem w ts = yields_then (last_numbers? 2 ts) (λ v us. yields ship)
 
 form_by_lem : (w : FormWord) (ts : List Token) → Yields Of01 (form_by w ts)
-unfolding ship? column? load? hold? drop? bare?
 form_by_lem ShipWord ts = yields_then (run? ts) (λ r us. yields_behind (rule_named r) ship_by_lem us)
 form_by_lem ColumnWord ts =
     yields_then (number? ts) (λ d t1. yields_then (number? t1) (λ km t2. yields_then (open? t2) (λ u t3.
@@ -54,7 +52,6 @@ yielded P a us (yields {a = b} p) e = let t : b ≡ a = cc in rw (← t) p
 yielded P a us nothing e = let z : ◌≡◌ {A = ℕ} 0 1 = cc in absurd (omega arith)
 
 form_kind : (ts : List Token) (a : Request) (us : List Token) → form? ts ≡ got a us → Of01 a
-unfolding form?
 form_kind ts a us e = yielded Of01 a us (yields_then (head? ts) (λ r ws. yields_behind (form_word r) form_by_lem ws)) e
 
 -- the requests by their lines: one of these, a show, and each that no show takes
@@ -126,7 +123,6 @@ word_back UnweighWord own = refl
 
 -- what such a line yields
 own_yields : (w : LineWord) (ts : List Token) → 0 < own_sort w → Yields (λ (r : Request). sort_of r ≡ own_sort w) (line_by w ts)
-unfolding bare? weight? weighed?
 own_yields (OfForm w) ts own = absurd (omega arith)
 own_yields TotalWord ts own = yields_then (close? ts) (λ u us. yields refl)
 own_yields WeightWord ts own = yields_then (number? ts) (λ t us. yields_then (last_numbers? 1 us) (λ v ws. yields refl))
@@ -163,7 +159,6 @@ pub data Read (ts : List Token) (a : Request) (us : List Token) : Type 0 where
   an_own : (w : LineWord) (vs : List Token) → sort_of a ≡ own_sort w → 0 < own_sort w → ts ≡ opened ∷ run (own_word w) ∷ vs → line_by w vs ≡ got a us → Read ts a us
 
 pub read_line : (ts : List Token) (a : Request) (us : List Token) → line? ts ≡ got a us → Read ts a us
-unfolding line? form? head? open? run?
 read_line [] a us e = clash e
 read_line (closed ∷ ts) a us e = clash e
 read_line (run r ∷ ts) a us e = clash e
@@ -190,7 +185,7 @@ own_none WeighedWord own = refl
 own_none UnweighWord own = refl
 
 pub form_line : (ts : List Token) (a : Request) (us : List Token) → form? ts ≡ got a us → line? ts ≡ got a us
-unfolding line? form? head? open? run? named same
+unfolding named same
 form_line [] a us e = clash e
 form_line (closed ∷ ts) a us e = clash e
 form_line (run r ∷ ts) a us e = clash e
@@ -212,7 +207,6 @@ form_line (opened ∷ run r ∷ ts) a us e = by (is r "show") refl
 
 -- what a show reads: a form, and the bracket behind it
 show_reads : (vs : List Token) (a : Request) (us : List Token) → show? vs ≡ got a us → (a ≡ ShowLine) × ((b : Request) × (form? vs ≡ got b (closed ∷ us)))
-unfolding show? bare? close?
 show_reads vs a us e = by (form? vs) refl e
   where
     then : (b : Request) (ws : List Token) → form? vs ≡ got b ws → (close? ws and_then λ u xs. got (ShowLine) xs) ≡ got a us → (a ≡ ShowLine) × ((b : Request) × (form? vs ≡ got b (closed ∷ us)))
@@ -278,7 +272,7 @@ show_found ts k = by (read_line ts ShowLine [] (line_reads ts ShowLine k))
         (f.front, (t ∙ ap (λ l. opened ∷ run (bytes "show") ∷ l) f.same, rw (form_request f.front s.0 alone) (form_kind f.front s.0 [] alone)))
 
 pub show_taken : (ts form : List Token) → ShowOf ts form → request_of ts ≡ Some ShowLine
-unfolding request_of line? head? open? run? show? bare? close? same
+unfolding request_of same
 show_taken ts form w =
     let a = asked_form form w.1 in
     let f = form_frames form a.0 [] a.1 in

@@ -66,33 +66,28 @@ frames_then {A = A} {p = p} {f = f} first second ts b vs e = by (p ts) refl e
 
 -- ---- a token
 run_frames : Frames run?
-unfolding run?
 run_frames [] a us e = clash e
 run_frames (opened ∷ ts) a us e = clash e
 run_frames (closed ∷ ts) a us e = clash e
 run_frames (run r ∷ ts) a us e = let t = read_same e in record { front = run r ∷ []; same = ap (λ l. run r ∷ l) t.1; again = λ ws. rw t.0 }
 
 open_frames : Frames open?
-unfolding open?
 open_frames [] a us e = clash e
 open_frames (opened ∷ ts) a us e = let t = read_same e in record { front = opened ∷ []; same = ap (λ l. opened ∷ l) t.1; again = λ ws. rw t.0 }
 open_frames (closed ∷ ts) a us e = clash e
 open_frames (run r ∷ ts) a us e = clash e
 
 close_frames : Frames close?
-unfolding close?
 close_frames [] a us e = clash e
 close_frames (opened ∷ ts) a us e = clash e
 close_frames (closed ∷ ts) a us e = let t = read_same e in record { front = closed ∷ []; same = ap (λ l. closed ∷ l) t.1; again = λ ws. rw t.0 }
 close_frames (run r ∷ ts) a us e = clash e
 
 head_frames : Frames head?
-unfolding head?
 head_frames = frames_then open_frames (λ u. run_frames)
 
 -- ---- numbers
 number_frames : Frames number?
-unfolding number?
 number_frames = frames_then run_frames (λ r. frames_behind frames_got (number_of r))
 
 numbers_frame : (k : ℕ) → Frames (numbers? k)
@@ -117,7 +112,7 @@ module _ {A : Type 0} (body : List ℕ → List Token → Parsed A) (each : (r :
   more k x us = items? k item us and_then λ xs ws. got (x ∷ xs) ws
 
   items_frame : (k : ℕ) → Frames (items? k item)
-  unfolding items? head? open? run? close?
+  unfolding items?
   items_frame zero ts a us e = frames_then close_frames (λ u. frames_got []) ts a us e
   items_frame (suc k) [] a us e = clash e
   items_frame (suc k) (closed ∷ ts) a us e =
@@ -145,21 +140,17 @@ abbrev cell_body : List ℕ → List Token → Parsed Cell
 cell_body r us = behind? cell_by (cell_named r) us
 
 cells_frame : (k : ℕ) → Frames (several? k cell?)
-unfolding cell?
 cells_frame k = several_frame cell_body (λ r. frames_behind cell_by_frames (cell_named r)) k
 
 section_frames : Frames section?
-unfolding section?
 section_frames =
     frames_then number_frames (λ v.
     frames_then (cells_frame 8) (λ cs. frames_got (section_record v cs)))
 
 slack_frames : Frames slack?
-unfolding slack?
 slack_frames = frames_then (last_frame 4) (λ v. frames_got (slack_record v))
 
 body_frames : (m : Mode) → Frames (body? m)
-unfolding body?
 body_frames Trimmed = section_frames
 body_frames Voided = section_frames
 body_frames Partial = slack_frames
@@ -168,18 +159,15 @@ abbrev part_body : Mode → List ℕ → List Token → Parsed Part
 part_body m r us = cond (is r "part") (body? m us) none
 
 parts_frame : (m : Mode) (k : ℕ) → Frames (several? k (part? m))
-unfolding part?
 parts_frame m k = several_frame (part_body m) (λ r. frames_if (is r "part") (body_frames m) frames_none) k
 
 -- ---- the forms
 hold_by_frames : (n : ℕ) (m : Mode) → Frames (parts? n m)
-unfolding parts?
 hold_by_frames n m =
     frames_then number_frames (λ v.
     frames_then (parts_frame m 6) (λ ps. frames_got (HoldLine n (hold_record m v ps))))
 
 hold_frames : Frames hold?
-unfolding hold?
 hold_frames =
     frames_then number_frames (λ n.
     frames_then run_frames (λ r. frames_behind (hold_by_frames n) (mode_named r)))
@@ -188,7 +176,6 @@ ship_by_frames : (w : RuleWord) → Frames (ship_by w)
 ship_by_frames w = frames_then (last_frame 2) (λ v. frames_got (ship_request w v))
 
 ship_frames : Frames ship?
-unfolding ship?
 ship_frames = frames_then run_frames (λ r. frames_behind ship_by_frames (rule_named r))
 
 abbrev load_request : ℕ → List ℕ → Request
@@ -198,7 +185,6 @@ abbrev column_of : ℕ → ℕ → List ℕ → Request
 column_of d km kn = ColumnLine (record { d = d; km = km; kn = kn })
 
 column_frames : Frames column?
-unfolding column?
 column_frames =
     frames_then number_frames (λ d.
     frames_then number_frames (λ km.
@@ -207,19 +193,16 @@ column_frames =
     frames_then close_frames (λ u. frames_got (column_of d km kn))))))
 
 load_frames : Frames load?
-unfolding load?
 load_frames =
     frames_then number_frames (λ d.
     frames_then (last_frame 2) (λ v. frames_got (load_request d v)))
 
 drop_frames : Frames drop?
-unfolding drop?
 drop_frames =
     frames_then number_frames (λ n.
     frames_then close_frames (λ u. frames_got (DropLine n)))
 
 bare_frames : (r : Request) → Frames (bare? r)
-unfolding bare?
 bare_frames r = frames_then close_frames (λ u. frames_got r)
 
 form_by_frames : (w : FormWord) → Frames (form_by w)
@@ -232,5 +215,4 @@ form_by_frames JudgeWord = bare_frames JudgeLine
 form_by_frames ClearWord = bare_frames ClearLine
 
 pub form_frames : Frames form?
-unfolding form?
 form_frames = frames_then head_frames (λ r. frames_behind form_by_frames (form_word r))

@@ -9,11 +9,9 @@ use Rattle.text.specs.Token.{tokens, number_of, same, value_from}
 use Rattle.std.specs.Prelude.{Some, Ok}
 use Rattle.line_codes.specs.Line.{walked, reading_of}
 use Rattle.spelling.specs.Spelling.{spell}
-use Rattle.items.specs.Grammar.{items?, last_numbers?, numbers?, number?, head?, run?, open?, close?, named}
-use Rattle.parts.specs.Shape.{part?, body?, section?, cell?}
+use Rattle.items.specs.Grammar.{items?, last_numbers?, numbers?, named}
 use Rattle.forms.specs.declared.Request.TheVariants.{ShowLine}
-use Rattle.forms.specs.Shape.{bare?, form?, hold?, parts?}
-use Rattle.request.specs.Shape.{request_of, line?, show?}
+use Rattle.request.specs.Shape.{request_of}
 use Rattle.showing.specs.Show.{form_inside, show_reply}
 use Rattle.showing.specs.Laws.{SomeShowIsSoLong}
 
@@ -28,7 +26,7 @@ unfolding reading_of all within walked tokens number_of same value_from
 sound = refl
 
 asks : request_of (tokens longest) ≡ Some ShowLine
-unfolding tokens within request_of line? show? bare? form? hold? parts? part? body? section? cell? items? last_numbers? numbers? number? head? run? open? close? named number_of same value_from all
+unfolding tokens within request_of items? last_numbers? numbers? named number_of same value_from all
 asks = refl
 
 replied : length (show_reply (tokens longest)) ≡ 2049

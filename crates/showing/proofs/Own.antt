@@ -10,13 +10,13 @@ use Rattle.record.specs.declared.WeightItem.{WeightItem}
 use Rattle.record.specs.declared.Weighing.{Weighing}
 use Rattle.record.specs.declared.Weighing.TheVariants.{Weight, Weighed, Unweigh}
 use Rattle.text.specs.Token.{Token, opened, closed, run, number_of, same}
-use Rattle.items.specs.Grammar.{Parsed, got, none, ◌and_then◌, open?, close?, run?, head?, named, behind?, number?, numbers?, nth, last_numbers?, whole?}
+use Rattle.items.specs.Grammar.{Parsed, got, none, ◌and_then◌, close?, run?, named, behind?, number?, numbers?, nth, last_numbers?, whole?}
 use Rattle.items.proofs.Yields.{Yields, yields, nothing, yields_then}
 use Rattle.forms.specs.declared.Request.TheVariants.{TotalLine, WeighingLine}
 use Rattle.forms.specs.declared.Request.{Request}
 use Rattle.forms.specs.Shape.{bare?}
 use Rattle.request.specs.declared.LineWord.TheVariants.{TotalWord, WeightWord, WeighedWord, UnweighWord}
-use Rattle.request.specs.Shape.{weight?, weighed?, line?, request_of}
+use Rattle.request.specs.Shape.{request_of}
 use Rattle.showing.specs.Laws.{TakenAsTotal, TotalOnly, WeighingOf, TakenAsWeighing, WeighingWord, weight, weighed, unweigh, WeighingOnly}
 use Rattle.showing.proofs.Framing.{clash, read_same}
 use Rattle.showing.proofs.Forms.{own_found}
@@ -27,14 +27,12 @@ then_got none f b vs e = clash e
 then_got (got a us) f b vs e = (a, (us, refl, e))
 
 close_got : (ts us : List Token) (u : Unit {0}) → close? ts ≡ got u us → ts ≡ closed ∷ us
-unfolding close?
 close_got [] us u e = clash e
 close_got (opened ∷ ts) us u e = clash e
 close_got (closed ∷ ts) us u e = cc
 close_got (run r ∷ ts) us u e = clash e
 
 run_got : (ts us : List Token) (r : List ℕ) → run? ts ≡ got r us → ts ≡ run r ∷ us
-unfolding run?
 run_got [] us r e = clash e
 run_got (opened ∷ ts) us r e = clash e
 run_got (closed ∷ ts) us r e = clash e
@@ -45,7 +43,6 @@ number_by (Some w) ts us v e = (cc, cc)
 number_by None ts us v e = clash e
 
 number_got : (ts us : List Token) (v : ℕ) → number? ts ≡ got v us → (r : List ℕ) × (ts ≡ run r ∷ us) × (number_of r ≡ Some v)
-unfolding number?
 number_got ts us v e =
     let t = then_got (run? ts) _ v us e in
     let n = number_by (number_of t.0) t.1.0 us v t.1.2 in
@@ -53,7 +50,6 @@ number_got ts us v e =
 
 -- a bracket alone
 bare_got : (k : Request) (ts : List Token) (a : Request) → bare? k ts ≡ got a [] → ts ≡ closed ∷ []
-unfolding bare?
 bare_got k ts a e =
     let t = then_got (close? ts) _ a [] e in
     close_got ts t.1.0 t.0 t.1.1 ∙ ap (λ l. closed ∷ l) (read_same t.1.2).1
@@ -73,7 +69,7 @@ last_got ts us v e =
 
 -- ---- a total
 pub taken_as_total : TakenAsTotal
-unfolding request_of line? head? open? run? named bare? close? same
+unfolding request_of named same
 taken_as_total ts = (found, λ e. rw e refl)
   where
     found : request_of ts ≡ Some TotalLine → ts ≡ opened ∷ run (bytes "total") ∷ closed ∷ []
@@ -82,7 +78,7 @@ taken_as_total ts = (found, λ e. rw e refl)
         p.1 ∙ ap (λ l. opened ∷ run (bytes "total") ∷ l) (bare_got TotalLine p.0 TotalLine p.2)
 
 pub total_only : TotalOnly
-unfolding request_of line? head? open? run? named bare? close? same
+unfolding request_of named same
 total_only [] more = refl
 total_only (opened ∷ ts) more = refl
 total_only (run r ∷ ts) more = refl
@@ -91,7 +87,6 @@ total_only (closed ∷ t ∷ ts) more = refl
 
 -- ---- lines of weights
 weight_found : (i : WeightItem) (ts : List Token) → request_of ts ≡ Some (WeighingLine (Weight i)) → WeighingOf (Weight i) ts
-unfolding weight?
 weight_found i ts k =
     let p = own_found WeightWord ts (omega arith) (WeighingLine (Weight i)) k refl in
     let q = then_got (number? p.0) _ (WeighingLine (Weight i)) [] p.2 in
@@ -107,7 +102,6 @@ weight_found i ts k =
     weights_same e = cc
 
 weighed_found : (fs : ℕ) (ts : List Token) → request_of ts ≡ Some (WeighingLine (Weighed fs)) → WeighingOf (Weighed fs) ts
-unfolding weighed?
 weighed_found fs ts k =
     let p = own_found WeighedWord ts (omega arith) (WeighingLine (Weighed fs)) k refl in
     let w = then_got (last_numbers? 1 p.0) _ (WeighingLine (Weighed fs)) [] p.2 in
@@ -126,7 +120,7 @@ weighing_found ts Unweigh k =
     p.1 ∙ ap (λ l. opened ∷ run (bytes "unweigh") ∷ l) (bare_got (WeighingLine Unweigh) p.0 (WeighingLine Unweigh) p.2)
 
 weighing_read : (ts : List Token) (w : Weighing) → WeighingOf w ts → request_of ts ≡ Some (WeighingLine w)
-unfolding request_of line? head? open? run? named bare? close? same weight? weighed? number? last_numbers? numbers?
+unfolding request_of named same last_numbers? numbers?
 weighing_read ts (Weight i) (t, (h, e, n, m)) = rw (e, n, m) refl
 weighing_read ts (Weighed fs) (r, e, n) = rw (e, n) refl
 weighing_read ts Unweigh e = rw e refl
@@ -145,7 +139,7 @@ weighs_whole (yields {ts = t ∷ ts} q) = inl refl
 weighs_whole nothing = inl refl
 
 only_by : (word : List ℕ) (behind : List Token) → WeighingWord word → Weighs (request_of (opened ∷ run word ∷ behind))
-unfolding request_of line? head? open? run? named same bare? weight? weighed?
+unfolding request_of named same
 only_by word behind weight =
     weighs_whole (yields_then (number? behind) (λ t us. yields_then (last_numbers? 1 us) (λ v ws. yields (_, refl))))
 only_by word behind weighed = weighs_whole (yields_then (last_numbers? 1 behind) (λ v us. yields (_, refl)))

@@ -26,7 +26,7 @@ use Rattle.forms.specs.declared.Request.{Request}
 use Rattle.forms.specs.Shape.{rule_named, ship_by, ship?, column?, load?, mode_named, parts?, hold?, drop?, bare?, form_word, form_by, form?}
 use Rattle.request.specs.declared.LineWord.{LineWord}
 use Rattle.request.specs.declared.LineWord.TheVariants.{OfForm, TotalWord, WeightWord, WeighedWord, UnweighWord}
-use Rattle.request.specs.Shape.{show?, weight?, weighed?, line_word, line_by, line?}
+use Rattle.request.specs.Shape.{line_word, line_by, line?}
 
 -- ---- the places where a bracket opens, and those where a run stands directly behind a closing bracket
 abbrev here : Token → List Token → ℕ
@@ -86,14 +86,14 @@ module _ (most total : ℕ) (end : Stand) where
 
   -- ---- a token
   run_leaves : (d k : ℕ) (ts : List Token) → In d k ts → Leaves (In d k) (run? ts)
-  unfolding run? opens along
+  unfolding opens along
   run_leaves d k [] p = nothing
   run_leaves d k (opened ∷ ts) p = nothing
   run_leaves d k (closed ∷ ts) p = nothing
   run_leaves d k (run r ∷ ts) p = leaves {ts = ts} (record { count = omega (arith, p.count); walk = p.walk })
 
   open_leaves : (d k : ℕ) (ts : List Token) → suc d < most → Behind (suc d) k ts → Leaves (In (suc d) (suc k)) (open? ts)
-  unfolding open? opens along
+  unfolding opens along
   open_leaves d k [] h p = nothing
   open_leaves d k (opened ∷ ts) h p =
       leaves {ts = ts} (record {
@@ -104,7 +104,7 @@ module _ (most total : ℕ) (end : Stand) where
   open_leaves d k (run r ∷ ts) h p = nothing
 
   close_leaves : (d k : ℕ) (ts : List Token) → Behind (suc d) k ts → Leaves (Behind d k) (close? ts)
-  unfolding close? opens along
+  unfolding opens along
   close_leaves d k [] p = nothing
   close_leaves d k (opened ∷ ts) p = nothing
   close_leaves d k (closed ∷ ts) p =
@@ -113,12 +113,10 @@ module _ (most total : ℕ) (end : Stand) where
   close_leaves d k (run r ∷ ts) p = nothing
 
   head_leaves : (d k : ℕ) (ts : List Token) → suc d < most → Behind (suc d) k ts → Leaves (In (suc d) (suc k)) (head? ts)
-  unfolding head?
   head_leaves d k ts h p = leaves_with (open_leaves d k ts h p) (λ u us q. run_leaves (suc d) (suc k) us q)
 
   -- ---- numbers
   number_leaves : (d k : ℕ) (ts : List Token) → In d k ts → Leaves (In d k) (number? ts)
-  unfolding number?
   number_leaves d k ts p = leaves_with (run_leaves d k ts p) (λ r us q. leaves_behind (number_of r) us q (λ v vs w. leaves w))
 
   numbers_leave : (d k m : ℕ) (ts : List Token) → In d k ts → Leaves (In d k) (numbers? m ts)
@@ -162,22 +160,18 @@ module _ (most total : ℕ) (end : Stand) where
   cell_by_lem d k w ts p = leaves_with (last_leave d k (numbers_of w) ts p) (λ v us q. leaves q)
 
   cell_leaves : (d k : ℕ) (ts : List Token) → suc d < most → Behind (suc d) k ts → Leaves (Behind (suc d) (1 + k)) (cell? ts)
-  unfolding cell?
   cell_leaves d k ts h p =
       leaves_with (head_leaves d k ts h p) (λ r us q. leaves_behind (cell_named r) us (more_in (omega arith) q) (cell_by_lem (suc d) (1 + k)))
 
   section_leaves : (d k : ℕ) (ts : List Token) → suc d < most → In d k ts → Leaves (Behind d (8 + k)) (section? ts)
-  unfolding section?
   section_leaves d k ts h p =
       leaves_with (number_leaves d k ts p) (λ v us q.
       leaves_with (several_leave cell? d 1 (λ l ws w. cell_leaves d l ws h w) k 8 us (behind_in q)) (λ cs ws w. leaves (more_behind (omega arith) w)))
 
   slack_leaves : (d k : ℕ) (ts : List Token) → In d k ts → Leaves (Behind d (8 + k)) (slack? ts)
-  unfolding slack?
   slack_leaves d k ts p = leaves_with (last_leave d k 4 ts p) (λ v us q. leaves (more_behind (omega arith) q))
 
   body_leaves : (d k : ℕ) (m : Mode) (ts : List Token) → suc d < most → In d k ts → Leaves (Behind d (8 + k)) (body? m ts)
-  unfolding body?
   body_leaves d k Trimmed ts h p = section_leaves d k ts h p
   body_leaves d k Voided ts h p = section_leaves d k ts h p
   body_leaves d k Partial ts h p = slack_leaves d k ts p
@@ -185,20 +179,17 @@ module _ (most total : ℕ) (end : Stand) where
   -- ---- inside this many brackets and those of the form itself
   module _ (d : ℕ) (deep : d + 2 < most) where
     part_leaves : (m : Mode) (k : ℕ) (ts : List Token) → Behind (suc d) k ts → Leaves (Behind (suc d) (9 + k)) (part? m ts)
-    unfolding part?
     part_leaves m k ts p =
         leaves_with (head_leaves d k ts (omega arith) p) (λ r us q.
         leaves_if (is r "part") (weaker (omega arith) (body_leaves (suc d) (suc k) m us (omega arith) q)) nothing)
 
     -- the forms: a hold opens 54 brackets at most behind its own
     hold_by : (n k : ℕ) (m : Mode) (ts : List Token) → In d k ts → Leaves (Behind d (54 + k)) (parts? n m ts)
-    unfolding parts?
     hold_by n k m ts p =
         leaves_with (number_leaves d k ts p) (λ f us q.
         leaves_with (several_leave (part? m) d 9 (part_leaves m) k 6 us (behind_in q)) (λ ps ws w. leaves (more_behind (omega arith) w)))
 
     hold_leaves : (k : ℕ) (ts : List Token) → In d k ts → Leaves (Behind d (54 + k)) (hold? ts)
-    unfolding hold?
     hold_leaves k ts p =
         leaves_with (number_leaves d k ts p) (λ n us q. leaves_with (run_leaves d k us q) (λ r ws w. leaves_behind (mode_named r) ws w (hold_by n k)))
 
@@ -206,27 +197,22 @@ module _ (most total : ℕ) (end : Stand) where
     ship_by_lem k w ts p = leaves_with (last_leave d k 2 ts p) (λ v us q. leaves q)
 
     ship_leaves : (k : ℕ) (ts : List Token) → In d k ts → Leaves (Behind d k) (ship? ts)
-    unfolding ship?
     ship_leaves k ts p = leaves_with (run_leaves d k ts p) (λ r us q. leaves_behind (rule_named r) us q (ship_by_lem k))
 
     column_leaves : (k : ℕ) (ts : List Token) → In d k ts → Leaves (Behind d (suc k)) (column? ts)
-    unfolding column?
     column_leaves k ts p =
         leaves_with (number_leaves d k ts p) (λ v t1 q1. leaves_with (number_leaves d k t1 q1) (λ km t2 q2.
         leaves_with (open_leaves d k t2 (omega arith) (behind_in q2)) (λ u t3 q3. leaves_with (last_leave (suc d) (suc k) 10 t3 q3) (λ kn t4 q4.
         leaves_with (close_leaves d (suc k) t4 q4) (λ u t5 q5. leaves q5)))))
 
     load_leaves : (k : ℕ) (ts : List Token) → In d k ts → Leaves (Behind d k) (load? ts)
-    unfolding load?
     load_leaves k ts p = leaves_with (number_leaves d k ts p) (λ v us q. leaves_with (last_leave d k 2 us q) (λ vs ws w. leaves w))
 
     drop_leaves : (k : ℕ) (ts : List Token) → In d k ts → Leaves (Behind d k) (drop? ts)
-    unfolding drop?
     drop_leaves k ts p =
         leaves_with (number_leaves d k ts p) (λ n us q. leaves_with (close_leaves d k us (behind_in q)) (λ u ws w. leaves w))
 
     bare_leaves : (k : ℕ) (r : Request) (ts : List Token) → In d k ts → Leaves (Behind d k) (bare? r ts)
-    unfolding bare?
     bare_leaves k r ts p = leaves_with (close_leaves d k ts (behind_in p)) (λ u us q. leaves q)
 
     form_by_lem : (k : ℕ) (w : FormWord) (ts : List Token) → In d k ts → Leaves (Behind d (54 + k)) (form_by w ts)
@@ -240,7 +226,6 @@ module _ (most total : ℕ) (end : Stand) where
 
     -- and every line but show
     line_by_lem : (k : ℕ) (w : LineWord) (ts : List Token) → In d k ts → Leaves (Behind d (54 + k)) (line_by w ts)
-    unfolding weight? weighed?
     line_by_lem k (OfForm w) ts p = form_by_lem k w ts p
     line_by_lem k TotalWord ts p = weaker (omega arith) (bare_leaves k TotalLine ts p)
     line_by_lem k WeightWord ts p =
@@ -253,7 +238,7 @@ abbrev Left : (most : ℕ) → List Token → (k : ℕ) → List Token → Type 
 Left most ts k us = Behind most (opens ts) (along most before ts) 0 k us
 
 first_bracket : (most : ℕ) (ts : List Token) → Leaves (In most (opens ts) (along most before ts) 0 1) (head? ts)
-unfolding head? open? run? opens along
+unfolding opens along
 first_bracket most [] = nothing
 first_bracket most (opened ∷ []) = nothing
 first_bracket most (opened ∷ opened ∷ ts) = nothing
@@ -263,11 +248,9 @@ first_bracket most (closed ∷ ts) = nothing
 first_bracket most (run r ∷ ts) = nothing
 
 form_leaves : (most : ℕ) → 2 < most → (ts : List Token) → Leaves (Left most ts 55) (form? ts)
-unfolding form?
 form_leaves most h ts = leaves_with (first_bracket most ts) (λ r us p. leaves_behind (form_word r) us p (form_by_lem most (opens ts) (along most before ts) 0 (omega arith) 1))
 
 line_leaves : (most : ℕ) → 3 < most → (ts : List Token) → Leaves (Left most ts 56) (line? ts)
-unfolding line? show? form? bare?
 line_leaves most h ts =
     let n = opens ts in
     let e = along most before ts in
@@ -324,7 +307,6 @@ gaps_opens t (u ∷ ts) = gaps_by t u ts (gaps_opens u ts)
 
 -- a form opens with its bracket
 no_form : (t : Token) (ts : List Token) (a : Request) → is_opened t ≡ false → form? (t ∷ ts) ≡ got a [] → ⊥
-unfolding form? head? open?
 no_form opened ts a i e = let z : ◌≡◌ {A = ℕ} 0 1 = cc in omega arith
 no_form closed ts a i e = let z : ◌≡◌ {A = ℕ} 0 1 = cc in omega arith
 no_form (run r) ts a i e = let z : ◌≡◌ {A = ℕ} 0 1 = cc in omega arith

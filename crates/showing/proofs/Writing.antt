@@ -10,7 +10,7 @@ use Rattle.std.specs.Prelude.{Some}
 use Rattle.text.specs.Token.{closing, Token, opened, closed, run, tokens}
 use Rattle.reply.specs.Written.{over}
 use Rattle.spelling.specs.Spelling.{written, between, spell}
-use Rattle.items.specs.Grammar.{got, none, head?, open?, run?}
+use Rattle.items.specs.Grammar.{got, none, head?}
 use Rattle.forms.specs.declared.Request.TheVariants.{ShowLine}
 use Rattle.request.specs.Shape.{request_of}
 use Rattle.showing.specs.Show.{form_inside, show_reply}
@@ -33,7 +33,6 @@ spell_last (t ∷ ts) =
     (ap (λ l. written t ++ l) (sym (append_assoc (between t ts) (spell ts) (closing ∷ []))) ∙ sym (append_assoc (written t) (between t ts ++ spell ts) (closing ∷ [])))
 
 word_of : (ts form : List Token) → ShowOf ts form → head? ts ≡ got (bytes "show") (form ++ closed ∷ [])
-unfolding head? open? run?
 word_of ts form w = rw w.0
 
 module _ (line : List ℕ) (k : request_of (tokens line) ≡ Some ShowLine) where

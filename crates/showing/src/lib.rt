@@ -17,7 +17,7 @@ pub fn show(line: &[u8], out: &mut [u8]) -> usize
     ensures out_after { out.new ≡ over (show_reply (tokens line.now)) out.old }
 {
     let Some((_, rest)) = items::head(line) else {
-        return 0;
+        unreachable!()
     };
     let len = spelling::spell(rest, out);
     out[len - 1] = b'\n';

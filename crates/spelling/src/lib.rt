@@ -52,13 +52,11 @@ pub fn spell(s: &[u8], out: &mut [u8]) -> usize
     ensures value { result ≡ length (spell (tokens s.now)) }
     ensures out_after { out.new ≡ over (spell (tokens s.now)) out.old }
 {
-    let mut left = s;
     let mut w = 0;
     let mut ended = false;
-    while let Some((p, rest)) = text::first_piece(left) {
+    for p in text::pieces_of(s) {
         w = add_piece(out, w, ended, p);
         ended = ends_item(p);
-        left = rest;
     }
     w
 }

@@ -114,8 +114,9 @@ module _ (s t : List ℕ) (there : t ≡ drop (gap s) s) where
       of_run : in_run b ≡ true
       of_run = in_run_else b starts_there x y
 
-      pub run_left : tokens s ≡ run (take (run_length t) t) ∷ tokens (drop (run_length t) t)
-      run_left = to_token ∙ run_token t (rw front of_run)
+      -- the run of k bytes is w, and u is what is left behind it
+      pub run_left : (k : ℕ) (w u : List ℕ) → k ≡ run_length t → w ≡ take k t → u ≡ drop k t → tokens s ≡ run w ∷ tokens u
+      run_left k w u e f g = rw (f, g, e) (to_token ∙ run_token t (rw front of_run))
 
       pub run_has_bytes : 0 < run_length t
       run_has_bytes = rw (front, of_run) (omega arith)

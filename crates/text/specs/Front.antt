@@ -4,6 +4,7 @@ use Rattle.std.specs.Borrow.{Bor}
 use Rattle.std.specs.List.{prefix_len}
 use Rattle.whole.specs.Lists.{all}
 use Rattle.text.specs.declared.Piece.{Piece}
+use Rattle.text.specs.declared.Pieces.{Pieces}
 use Rattle.text.specs.declared.Piece.TheVariants.{Open, Close, Run}
 use Rattle.text.specs.Token.{opening, closing, is_digit, in_run, value_from, greatest_number, Token, opened, closed, run, tokens}
 
@@ -29,3 +30,7 @@ said (Run r) = run r.now
 abbrev pub led_by : Option (Piece × Bor (List ℕ)) → List Token
 led_by None = []
 led_by (Some (p, rest)) = said p ∷ tokens rest.now
+
+-- the tokens that a walk along a line has still before it
+abbrev pub left_of : Pieces → List Token
+left_of p = tokens p.0.now

@@ -3,7 +3,8 @@
 
 ghost use Rattle.std.specs.Prelude.{◌≡◌, ◌||◌, ◌<◌, ◌≤◌, length, IfSome};
 ghost use Rattle.text.specs.Token.{is_digit, in_run, number_of, tokens, run_length};
-ghost use Rattle.text.specs.Front.{starts_token, gap, digits_from, led_by};
+ghost use Rattle.std.specs.Iterator.{YieldsFirstBy, item_count};
+ghost use Rattle.text.specs.Front.{starts_token, gap, digits_from, said, led_by, left_of};
 
 // The greatest number.
 const GREATEST_NUMBER: u64 = 999999999;
@@ -19,18 +20,21 @@ pub enum Piece<'a> {
     Run(&'a [u8]),
 }
 
+// What was read at the front of a text, and what is left behind it.
+pub type Read<'a, T> = Option<(T, &'a [u8])>;
+
 #[tactic(auto, unfolding(whole::specs::Lists::within))]
 pub fn is_digit(b: u8) -> bool
     ensures { result ≡ is_digit b }
 {
-    b'0' <= b && b <= b'9'
+    b.is_ascii_digit()
 }
 
 #[tactic(auto, unfolding(whole::specs::Lists::within))]
 pub fn is_in_run(b: u8) -> bool
     ensures { result ≡ in_run b }
 {
-    b'a' <= b && b <= b'z' || is_digit(b)
+    b.is_ascii_lowercase() || is_digit(b)
 }
 
 fn starts_token(b: u8) -> bool
@@ -39,7 +43,7 @@ fn starts_token(b: u8) -> bool
     is_in_run(b) || b == b'(' || b == b')'
 }
 
-// How many bytes the run in front has.
+// How many bytes the run in front has. This count and the next differ in their tests alone, and a function that takes the test would be as long as each.
 fn run_length(s: &[u8]) -> usize
     ensures value { result ≡ run_length s.now }
     ensures upper_bound { result ≤ length s.now }
@@ -56,7 +60,7 @@ fn gap(s: &[u8]) -> usize
 }
 
 // The first bracket or run of a text, and what is left behind it.
-pub fn first_piece<'a>(s: &'a [u8]) -> Option<(Piece<'a>, &'a [u8])>
+pub fn first_piece<'a>(s: &'a [u8]) -> Read<'a, Piece<'a>>
     ensures read { tokens s.now ≡ led_by result }
     ensures shorter { IfSome result (λ r. length r.1.now < length s.now) }
 {
@@ -72,7 +76,31 @@ pub fn first_piece<'a>(s: &'a [u8]) -> Option<(Piece<'a>, &'a [u8])>
     Some((Piece::Run(run), rest))
 }
 
-// The number that digits say, a zero in front or not.
+// The brackets and runs of a text that are left, in their order.
+#[derive(Drop)]
+pub struct Pieces<'a>(&'a [u8]);
+
+impl<'a> Iterator for Pieces<'a> {
+    type Item = Piece<'a>;
+
+    ghost next_gives = { YieldsFirstBy said left_of };
+
+    ghost remaining = { item_count left_of };
+
+    fn next(&mut self) -> Option<Piece<'a>> {
+        let (piece, rest) = first_piece(self.0)?;
+        self.0 = rest;
+        Some(piece)
+    }
+}
+
+pub fn pieces_of(s: &[u8]) -> Pieces<'_>
+    ensures { left_of result ≡ tokens s.now }
+{
+    Pieces(s)
+}
+
+// The number that digits say, a zero in front or not. No `parse::<u32>()`: it takes a `+` in front.
 fn digits_of(run: &[u8]) -> Option<u32>
     ensures { result ≡ digits_from 0 run.now }
 {

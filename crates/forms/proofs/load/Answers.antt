@@ -1,5 +1,4 @@
 -- `load`: `D KG FS)`.
-use Rattle.std.proofs.Common.{rules}
 use Rattle.forms.specs.Carried.{carried_request}
 use mathlib.Core.List.{map}
 use Rattle.text.specs.Token.{tokens}
@@ -7,19 +6,10 @@ use Rattle.items.specs.Grammar.{last_numbers?, nth}
 use Rattle.items.specs.Carried.{carried}
 use Rattle.items.proofs.Walks.{built, nth_kept}
 use Rattle.forms.specs.declared.Request.TheVariants.{LoadLine}
-use Rattle.forms.specs.Shape.{load?}
 use Rattle.forms.proofs.load.Goals as goal
 
-pub returns-in_err-d : goal.returns-in_err-d
-unfolding load?
-returns-in_err-d c = search rules
-
-pub returns-in_err-kg : goal.returns-in_err-kg
-unfolding load?
-returns-in_err-kg c = search rules
-
 pub returns : goal.returns
-unfolding load? carried_request
+unfolding carried_request
 returns c =
     let r = c.in_ok-d in
     let v = c.in_ok-kg.field-0-0 in

@@ -5,12 +5,7 @@ use Rattle.items.proofs.Walks.{kept}
 use Rattle.parts.specs.Shape.{part?}
 use Rattle.parts.specs.Carried.{carried_part}
 use Rattle.forms.proofs.Records.{parts_none, parts_read}
-use Rattle.forms.specs.Shape.{parts?}
 use Rattle.forms.proofs.parts.Goals as goal
-
-pub returns-in_err-factor : goal.returns-in_err-factor
-unfolding parts?
-returns-in_err-factor c = search rules
 
 pub returns-in_err-count : goal.returns-in_err-count
 returns-in_err-count c =

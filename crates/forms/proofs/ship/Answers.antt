@@ -1,5 +1,4 @@
 -- `ship`: `RULE EDGE FLOOD)`.
-use Rattle.std.proofs.Common.{rules}
 use Rattle.forms.specs.Carried.{carried_request}
 use mathlib.Core.List.{map}
 use mathlib.Core.Path.{◌≡◌, sym, ◌∙◌}
@@ -9,23 +8,11 @@ use Rattle.items.specs.Grammar.{last_numbers?, nth}
 use Rattle.items.specs.Carried.{carried}
 use Rattle.items.proofs.Walks.{built, nth_kept}
 use Rattle.forms.proofs.Records.{rule_kept}
-use Rattle.forms.specs.Shape.{ship?, rule_named, ship_request}
+use Rattle.forms.specs.Shape.{rule_named, ship_request}
 use Rattle.forms.proofs.ship.Goals as goal
 
-pub returns-in_err-word : goal.returns-in_err-word
-unfolding ship?
-returns-in_err-word c = search rules
-
-pub returns-in_err-word-2 : goal.returns-in_err-word-2
-unfolding ship?
-returns-in_err-word-2 c = search rules
-
-pub returns-in_err-edge : goal.returns-in_err-edge
-unfolding ship?
-returns-in_err-edge c = search rules
-
 pub returns : goal.returns
-unfolding ship? carried_request
+unfolding carried_request
 returns c =
     let r = c.in_ok-word in
     let w = c.in_ok-word-2.word in

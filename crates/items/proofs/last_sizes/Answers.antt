@@ -1,31 +1,32 @@
 -- `last_sizes`: the last numbers of a form, and its closing bracket.
-use Rattle.std.proofs.Common.{◌≡◌, ◌+◌, ◌-◌, take, [], ◌∷◌, ◌++◌}
+use Rattle.std.proofs.Common.{◌≡◌, ◌+◌, ◌-◌, take, List, ℕ, [], ◌∷◌, ◌++◌}
 use native.Mathlib.Omega.{arith}
 use native.Mathlib.Numerals.{add-one}
-use mathlib.Core.Path.{sym, ◌∙◌}
+use mathlib.Core.Path.{sym, ap, ◌∙◌}
 use lib.ListN.{set, length-set, length-replicate}
 use lib.Seq.{take-suc-set, take_all}
 use Rattle.text.specs.Token.{tokens}
-use Rattle.items.proofs.Walks.{ahead_one, ahead_none, ahead_end, sizes, sizes_stop, sizes_next, sizes_last}
+use Rattle.items.specs.Grammar.{got}
+use Rattle.items.proofs.Walks.{ahead, ahead_one, ahead_none, ahead_end, sizes, sizes_stop, sizes_next, sizes_closed, sizes_unclosed}
 use Rattle.items.proofs.last_sizes.Goals as goal
 
-pub loop-i-init : goal.loop-i-init
-loop-i-init g c =
+pub loop-value-init : goal.loop-value-init
+loop-value-init g c =
     let n = g.row.N in
     let e : n - 0 ≡ n = omega arith in
     record { long = length-replicate n 0; read = rw e (sym (ahead_none (sizes n (tokens c.args.s.now)))) }
 
 pub returns-in_err-v : goal.returns-in_err-v
 returns-in_err-v g c =
-    let loop = c.loop-i in
-    loop.invariant.read ∙ rw (sizes_stop (g.row.N - loop.i) (tokens loop.rest.now) (omega arith) c.in_err-v.ensures, c.from_residual.ensures)
+    let loop = c.loop-value in
+    loop.invariant.read ∙ rw (sizes_stop (g.row.N - loop.value-index) (tokens loop.rest.now) (omega arith) c.in_err-v.ensures, c.from_residual.ensures)
 
-pub loop-i-preserved : goal.loop-i-preserved
-loop-i-preserved g c =
-    let loop = c.loop-i in
+pub loop-value-preserved : goal.loop-value-preserved
+loop-value-preserved g c =
+    let loop = c.loop-value in
     let n = g.row.N in
-    let i = loop.i in
-    let vs = loop.values in
+    let i = loop.value-index in
+    let vs = loop.value-items in
     let v = c.in_ok-v.v in
     let us = tokens c.in_ok-v.behind.now in
     let k : n - i - 1 ≡ n - (i + 1) = omega arith in
@@ -38,14 +39,16 @@ loop-i-preserved g c =
 -- every number is read, and the bracket is left
 pub returns-in_err-close : goal.returns-in_err-close
 returns-in_err-close g c =
-    let loop = c.loop-i in
-    let e : g.row.N - loop.i ≡ 0 = omega arith in
-    loop.invariant.read ∙ rw (e, sizes_last (tokens loop.rest.now), c.in_err-close.ensures, c.from_residual-in_err-close.ensures)
+    let loop = c.loop-value in
+    let vs = take loop.value-index loop.value-items in
+    rw c.from_residual-in_err-close.ensures (loop.invariant.read ∙ ap (ahead vs) (sizes_unclosed (g.row.N - loop.value-index) (tokens loop.rest.now) (omega arith) c.in_err-close.ensures))
 
 pub returns : goal.returns
 returns g c =
-    let loop = c.loop-i in
-    let n = g.row.N in
-    let e : n - loop.i ≡ 0 = omega arith in
-    let t : take loop.i loop.values ≡ loop.values = take_all loop.i loop.values (omega arith) in
-    loop.invariant.read ∙ rw (e, sizes_last (tokens loop.rest.now), c.in_ok-close.ensures, t) (ahead_end loop.values (tokens c.in_ok-close.field-0.now))
+    let loop = c.loop-value in
+    let vs = take loop.value-index loop.value-items in
+    let us = tokens c.in_ok-close.field-0.now in
+    loop.invariant.read
+    ∙ ap (ahead vs) (sizes_closed (g.row.N - loop.value-index) (tokens loop.rest.now) us (omega arith) c.in_ok-close.ensures)
+    ∙ ahead_end vs us
+    ∙ ap (λ (xs : List ℕ). got xs us) (take_all loop.value-index loop.value-items (omega arith))

@@ -4,9 +4,9 @@ use Rattle.text.specs.Token.{tokens}
 use Rattle.items.proofs.Walks.{ahead, sizes}
 use Rattle.items.proofs.last_sizes.Given as goal
 
-abbrev pub invariant-loop-i : goal.invariant-loop-i
-invariant-loop-i g l =
+abbrev pub invariant-loop-value : goal.invariant-loop-value
+invariant-loop-value g l =
     record {
-      long : length l.values ≡ g.row.N;
-      read : sizes g.row.N (tokens l.fn.s) ≡ ahead (take l.i l.values) (sizes (g.row.N - l.i) (tokens l.rest));
+      long : length l.value-items ≡ g.row.N;
+      read : sizes g.row.N (tokens l.fn.s) ≡ ahead (take l.value-index l.value-items) (sizes (g.row.N - l.value-index) (tokens l.rest));
     }

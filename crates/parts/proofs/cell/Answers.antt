@@ -1,31 +1,11 @@
 -- `cell`: a cell, by its word.
-use Rattle.std.proofs.Common.{rules, ◌≡◌, Some}
+use Rattle.std.proofs.Common.{◌≡◌, Some}
 use mathlib.Core.Path.{sym, ap, ◌∙◌}
-use Rattle.parts.specs.Shape.{cell_named, cell?}
+use Rattle.parts.specs.Shape.{cell_named}
 use Rattle.text.specs.Token.{tokens}
 use Rattle.parts.proofs.Records.{cell_read}
 use Rattle.parts.specs.declared.CellWord.TheVariants.{WingWord, HatchWord, VoidWord}
 use Rattle.parts.proofs.cell.Goals as goal
-
-pub returns-in_err-word : goal.returns-in_err-word
-unfolding cell?
-returns-in_err-word c = search rules
-
-pub returns-in_err-cell_named : goal.returns-in_err-cell_named
-unfolding cell?
-returns-in_err-cell_named c = search rules
-
-pub returns-in_err-width-in-WingWord : goal.returns-in_err-width-in-WingWord
-unfolding cell?
-returns-in_err-width-in-WingWord c = search rules
-
-pub returns-in_err-width-in-HatchWord : goal.returns-in_err-width-in-HatchWord
-unfolding cell?
-returns-in_err-width-in-HatchWord c = search rules
-
-pub returns-in_err-width-in-VoidWord : goal.returns-in_err-width-in-VoidWord
-unfolding cell?
-returns-in_err-width-in-VoidWord c = search rules
 
 pub returns-in_ok-width-in-WingWord : goal.returns-in_ok-width-in-WingWord
 returns-in_ok-width-in-WingWord c =

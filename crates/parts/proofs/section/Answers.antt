@@ -2,14 +2,10 @@
 use Rattle.std.proofs.Common.{rules}
 use Rattle.text.specs.Token.{tokens}
 use Rattle.items.proofs.Walks.{kept}
-use Rattle.parts.specs.Shape.{section?, cell?}
+use Rattle.parts.specs.Shape.{cell?}
 use Rattle.parts.specs.Carried.{carried_cell}
 use Rattle.parts.proofs.Records.{section_none, section_read}
 use Rattle.parts.proofs.section.Goals as goal
-
-pub returns-in_err-length : goal.returns-in_err-length
-unfolding section?
-returns-in_err-length c = search rules
 
 pub returns-in_err-count : goal.returns-in_err-count
 returns-in_err-count c =

@@ -1,22 +1,16 @@
 -- `slack`: `LENGTH BREADTH VOID GRAIN)`.
-use Rattle.std.proofs.Common.{rules}
 use mathlib.Core.Path.{◌∙◌}
 use mathlib.Core.List.{map}
 use Rattle.text.specs.Token.{tokens}
 use Rattle.items.specs.Grammar.{last_numbers?}
 use Rattle.items.specs.Carried.{carried}
 use Rattle.items.proofs.Walks.{built, nth_kept}
-use Rattle.parts.specs.Shape.{slack?, slack_record}
+use Rattle.parts.specs.Shape.{slack_record}
 use Rattle.parts.specs.Carried.{carried_part}
 use Rattle.parts.proofs.Records.{slack_kept}
 use Rattle.parts.proofs.slack.Goals as goal
 
-pub returns-in_err-length : goal.returns-in_err-length
-unfolding slack?
-returns-in_err-length c = search rules
-
 pub returns : goal.returns
-unfolding slack?
 returns c =
     let r = c.in_ok-length in
     let v = r.field-0-0 in

@@ -5,22 +5,12 @@ use Rattle.std.specs.Prelude.{Some}
 use Rattle.text.specs.Token.{tokens}
 use Rattle.items.proofs.Walks.{carries, carries_none}
 use Rattle.forms.specs.declared.Request.TheVariants.{ShowLine}
-use Rattle.forms.specs.Shape.{form_word, form_by, form?}
+use Rattle.forms.specs.Shape.{form_word, form_by}
 use Rattle.forms.specs.Carried.{carried_request}
 use Rattle.forms.proofs.Records.{bare_kept}
-use Rattle.request.specs.Shape.{show?}
 use Rattle.request.proofs.show.Goals as goal
 
-pub returns-in_err-word : goal.returns-in_err-word
-unfolding show? form?
-returns-in_err-word c = search rules
-
-pub returns-in_err-form : goal.returns-in_err-form
-unfolding show? form?
-returns-in_err-form c = search rules
-
 pub returns-in_err-rest : goal.returns-in_err-rest
-unfolding show? form?
 returns-in_err-rest c =
     let r = c.in_ok-word in
     let w = c.in_ok-form.form in
@@ -28,7 +18,6 @@ returns-in_err-rest c =
     rw (r.ensures, n, carries_none carried_request (form_by w (tokens r.behind.now)) c.in_err-rest.ensures, c.from_residual-in_err-rest.ensures)
 
 pub returns : goal.returns
-unfolding show? form?
 returns c =
     let r = c.in_ok-word in
     let w = c.in_ok-form.form in

@@ -1,5 +1,4 @@
 -- `weighed`: `FS)`.
-use Rattle.std.proofs.Common.{rules}
 use mathlib.Core.List.{map}
 use Rattle.record.specs.declared.Weighing.TheVariants.{Weighed}
 use Rattle.text.specs.Token.{tokens}
@@ -8,15 +7,10 @@ use Rattle.items.specs.Carried.{carried}
 use Rattle.items.proofs.Walks.{built, nth_kept}
 use Rattle.forms.specs.declared.Request.TheVariants.{WeighingLine}
 use Rattle.forms.specs.Carried.{carried_request}
-use Rattle.request.specs.Shape.{weighed?}
 use Rattle.request.proofs.weighed.Goals as goal
 
-pub returns-in_err-fs : goal.returns-in_err-fs
-unfolding weighed?
-returns-in_err-fs c = search rules
-
 pub returns : goal.returns
-unfolding weighed? carried_request
+unfolding carried_request
 returns c =
     let r = c.in_ok-fs in
     built carried_request (λ x. WeighingLine (Weighed (nth x 0))) (map carried) (last_numbers? 1 (tokens c.args.s.now)) r.field-0-0 (tokens r.rest.now) _ r.ensures

@@ -7,9 +7,8 @@ use Rattle.showing.specs.Show.{form_inside}
 use Rattle.showing.proofs.Writing.{has_word, part_spelled, part_long, part_fits_lem, part_some, newline_last}
 use Rattle.showing.proofs.show.Goals as goal
 
-pub returns-in_default : goal.returns-in_default
-returns-in_default c =
-    absurd (has_word c.args.line.now c.requires.is_show (rw c.in_default.is at c.head.ensures))
+pub unreachable-requires : goal.unreachable-requires
+unreachable-requires c = has_word c.args.line.now c.requires.is_show (rw c.in_default.is at c.head.ensures)
 
 pub spell-len-requires : goal.spell-len-requires
 spell-len-requires c =

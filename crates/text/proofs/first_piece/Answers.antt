@@ -24,8 +24,7 @@ pub returns-clause-read : goal.returns-clause-read
 returns-clause-read c =
     let s = c.args.s.now in
     let there = c.split_at.ensures.back ∙ ap (λ n. drop n s) c.gap.ensures.value in
-    rw (c.split_at-2.ensures.front, c.split_at-2.ensures.back, c.run_length.ensures.value)
-    (run_left s _ there _ _ c.in_ok-b.ensures.cases.0 c.if-b-eq40.false c.if-b-eq41.false)
+    run_left s _ there _ _ c.in_ok-b.ensures.cases.0 c.if-b-eq40.false c.if-b-eq41.false _ _ _ c.run_length.ensures.value c.split_at-2.ensures.front c.split_at-2.ensures.back
 
 pub returns-clause-shorter : goal.returns-clause-shorter
 returns-clause-shorter c =
