@@ -1,16 +1,16 @@
 -- From the sums of a walk along a section's cells to the definitions of the paper.
-use mathlib.Core.Path.{◌≡◌, refl, sym, ap, ◌∙◌}
+use mathlib.Core.Path.{◌≡◌, refl, ap, ◌∙◌}
 use mathlib.Core.Bool.{true, ◌&&◌}
 use mathlib.Core.List.{List, [], ◌∷◌}
 use Prim.Native.Nat.{ℕ, ◌+◌, ◌*◌, ◌/◌, ◌^◌, ◌≤◌, ◌<◌, min}
 use native.Mathlib.Omega.{arith}
 use native.Mathlib.Nat.{mul-le-mul}
 use lib.Dec.{leb}
-use lib.ListN.{length, drop, get_or}
+use lib.ListN.{length, drop, get_or, length-take}
 use borrow.Author.Tests.{leb-true}
 use Rattle.whole.specs.Lists.{within, all, sum_of}
 use Rattle.whole.proofs.Lists.{and_true, within_true, all_at, drop_next, drop_end}
-use Rattle.record.proofs.Taken.{past_cell, cells_length, cell_at}
+use Rattle.record.proofs.Taken.{past_cell, cells_length}
 use Rattle.record.specs.declared.Part.{Part}
 use Rattle.record.specs.declared.Cell.{Cell}
 use Rattle.record.specs.Held.{cell_width, cells_of}
@@ -149,38 +149,35 @@ cells_section p w e =
       widths = w.widths;
     }
 
--- the walk along the cells of a part, as the code reads them
-module _ (p : Part) (w : PartWithin p) (eight : length p.cells ≡ 8) (i : ℕ) (s : Sums) (a : Ahead (cells_of p) i s) where
-  fitting : p.count ≤ length p.cells
-  fitting = omega (arith, w.count)
+pub part_section_within : (p : Part) → section_limits p ≡ true → length p.cells ≡ 8 → SectionWithin (cells_of p)
+part_section_within p h e = cells_section p (part_within p h) e
 
-  count_is : length (cells_of p) ≡ p.count
-  count_is = cells_length p fitting
+pub few_cells : (p : Part) → section_limits p ≡ true → length (cells_of p) ≤ 8
+few_cells p h = omega (arith, (part_within p h).count, length-take p.count p.cells)
 
-  module _ (h : i < p.count) where
-    here : get_or (cells_of p) i past_cell ≡ get_or p.cells i past_cell
-    here = cell_at p fitting i h
+-- the walk along the cells of a section
+module _ (l : List Cell) (w : SectionWithin l) (few : length l ≤ 8) (i : ℕ) (s : Sums) (a : Ahead l i s) where
+  module _ (h : i < length l) where
+    next : drop i l ≡ get_or l i past_cell ∷ drop (i + 1) l
+    next = drop_next l i past_cell h
 
-    next : drop i (cells_of p) ≡ get_or p.cells i past_cell ∷ drop (i + 1) (cells_of p)
-    next = drop_next (cells_of p) i past_cell (omega (arith, count_is)) ∙ ap (λ (x : Cell). x ∷ drop (i + 1) (cells_of p)) here
+    bounds : CellBounds (get_or l i past_cell)
+    bounds = cell_bounds _ (all_at cell_limits l i past_cell w.cells h)
 
-    bounds : CellBounds (get_or p.cells i past_cell)
-    bounds = cell_bounds _ (ap cell_limits (sym here) ∙ all_at cell_limits (cells_of p) i past_cell w.cells (omega (arith, count_is)))
+    pub section_room : SumsFit s (sizes_of (get_or l i past_cell))
+    section_room = room_next l i s _ w.widths bounds a (drop (i + 1) l) next (omega arith)
 
-    pub part_room : SumsFit s (sizes_of (get_or p.cells i past_cell))
-    part_room = room_next (cells_of p) i s _ w.widths bounds a (drop (i + 1) (cells_of p)) next (omega (arith, w.count))
+    pub section_next : i + 1 < length l → Ahead l (i + 1) (inner_cell s (sizes_of (get_or l i past_cell)))
+    section_next k =
+        let f = drop_next l (i + 1) past_cell k in
+        ahead_next l i s _ w.widths bounds a _ _ (next ∙ ap (λ (xs : List Cell). get_or l i past_cell ∷ xs) f) f
 
-    pub part_next : i + 1 < p.count → Ahead (cells_of p) (i + 1) (inner_cell s (sizes_of (get_or p.cells i past_cell)))
-    part_next k =
-        let f = drop_next (cells_of p) (i + 1) past_cell (omega (arith, count_is)) in
-        ahead_next (cells_of p) i s _ w.widths bounds a _ _ (next ∙ ap (λ (xs : List Cell). get_or p.cells i past_cell ∷ xs) f) f
+    module _ (end : length l ≤ i + 1) where
+      alone : drop i l ≡ get_or l i past_cell ∷ []
+      alone = next ∙ ap (λ (xs : List Cell). get_or l i past_cell ∷ xs) (drop_end l (i + 1) past_cell end)
 
-    module _ (end : p.count ≤ i + 1) where
-      alone : drop i (cells_of p) ≡ get_or p.cells i past_cell ∷ []
-      alone = next ∙ ap (λ (xs : List Cell). get_or p.cells i past_cell ∷ xs) (drop_end (cells_of p) (i + 1) past_cell (omega (arith, count_is)))
+      pub section_last : last_answer s (sizes_of (get_or l i past_cell)) ≡ section_answer l
+      section_last = last_is l i s _ w.widths bounds a alone
 
-      pub part_last : last_answer s (sizes_of (get_or p.cells i past_cell)) ≡ section_answer (cells_of p)
-      part_last = last_is (cells_of p) i s _ w.widths bounds a alone
-
-      pub part_not_negative : (last_cell s (sizes_of (get_or p.cells i past_cell))).first + (last_cell s (sizes_of (get_or p.cells i past_cell))).old / 2 ≤ (last_cell s (sizes_of (get_or p.cells i past_cell))).high
-      part_not_negative = last_not_negative (cells_of p) i s _ w.widths bounds a alone (section_not_negative (cells_of p) (cells_section p w eight))
+      pub last_above : (last_cell s (sizes_of (get_or l i past_cell))).first + (last_cell s (sizes_of (get_or l i past_cell))).old / 2 ≤ (last_cell s (sizes_of (get_or l i past_cell))).high
+      last_above = last_not_negative l i s _ w.widths bounds a alone (section_not_negative l w)

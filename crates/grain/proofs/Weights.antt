@@ -88,8 +88,11 @@ hold_within h e =
     let n = within_true 1 6 h.head.count t.0 in
     record { low = n.low; count = n.high; factor = within_true 5000 40000 h.head.factor u.0; parts = u.1 }
 
-pub count_le : (h : Hold) → hold_limits h ≡ true → h.head.count ≤ 6
-count_le h e = (hold_within h e).count
+pub parts_within : (h : Hold) → hold_limits h ≡ true → all (part_limits h.head.mode) (parts_of h) ≡ true
+parts_within h e = (hold_within h e).parts
+
+pub few_parts : (h : Hold) → hold_limits h ≡ true → length (parts_of h) ≤ 6
+few_parts h e = omega (arith, (hold_within h e).count, length-take h.head.count h.parts)
 
 moments_le : (mode : Mode) (ps : List Part) → all (part_limits mode) ps ≡ true → sum_of (part_moment mode) ps ≤ length ps * 2 ^ 30
 unfolding all sum_of

@@ -2,15 +2,13 @@
 -- Section.antt; the laws in proofs/Walks.antt lead from these sums to them.)
 use Rattle.std.specs.Prelude.{cond, Option, Some, None, List, ℕ, ◌+◌, ◌*◌, ◌-◌, ◌/◌, min, ◌≤◌, ◌^◌, leb}
 use Rattle.record.specs.declared.Cell.{Cell}
-use Rattle.whole.specs.Lists.{sum_of}
+use Rattle.whole.specs.Lists.{all, sum_of}
 use Rattle.record.specs.declared.Mode.{Mode}
 use Rattle.record.specs.declared.Part.{Part}
-use Rattle.record.specs.declared.Hold.{Hold}
-use Rattle.record.specs.Held.{parts_of}
 use Rattle.cells.specs.declared.CellSizes.{CellSizes}
 use Rattle.grain.specs.declared.Sums.{Sums}
 use Rattle.grain.specs.Section.{kept, first_moment, fits, section_moment}
-use Rattle.grain.specs.Sum.{part_fits, part_section, part_moment, hold_fits}
+use Rattle.grain.specs.Sum.{part_fits, part_section, part_moment}
 
 -- the sums with a cell that keeps the area a and leaves the excess e
 unfoldable pub with_kept : Sums → CellSizes → (a e : ℕ) → Sums
@@ -54,12 +52,12 @@ pub record SumsFit (s : Sums) (z : CellSizes) : Type 0 where
   pub first : s.first ≤ 2 ^ 60
   pub old : s.old ≤ 2 ^ 60
 
--- the answer of a part, in mm³ and in thousandths of m⁴, and of all parts of a hold
+-- the answer of a part, in mm³ and in thousandths of m⁴, and of all parts of a hold together
 unfoldable pub part_section_answer : Mode → Part → Option ℕ
 part_section_answer mode p = cond (part_fits mode p) (Some (part_section mode p)) None
 
 unfoldable pub part_answer : Mode → Part → Option ℕ
 part_answer mode p = cond (part_fits mode p) (Some (part_moment mode p)) None
 
-unfoldable pub parts_answer : Hold → Option ℕ
-parts_answer h = cond (hold_fits h) (Some (sum_of (part_moment h.head.mode) (parts_of h))) None
+unfoldable pub parts_answer : Mode → List Part → Option ℕ
+parts_answer mode ps = cond (all (part_fits mode) ps) (Some (sum_of (part_moment mode) ps)) None

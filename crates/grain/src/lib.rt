@@ -1,16 +1,18 @@
 // Heeling moments of shifted grain: section, part, hold and weight moment.
 #![tactic(auto)]
 
-ghost use Rattle.std.specs.Prelude.{◌≡◌, true, ◌+◌, ◌/◌, ◌<◌, ◌≤◌, ◌^◌};
+ghost use Rattle.std.specs.Prelude.{◌≡◌, true, length, ◌+◌, ◌/◌, ◌<◌, ◌≤◌, ◌^◌};
+ghost use Rattle.whole.specs.Lists.{all};
 ghost use Rattle.record.specs.Held.{cells_of};
 ghost use Rattle.limits.specs.Limits.{section_limits, part_limits, hold_limits};
 ghost use Rattle.grain.specs.Section.{kept, first_moment};
 ghost use Rattle.grain.specs.Walk.{SumsFit, with_kept, inner_cell, last_cell, last_answer, section_answer, part_section_answer, part_answer, parts_answer};
 ghost use Rattle.grain.specs.Slack.{slack_moment};
+ghost use Rattle.grain.specs.Within.{SectionWithin};
 ghost use Rattle.grain.specs.Sum.{percentage, weighed_of};
 
 use cells::{CellSizes, SLOPE_15};
-use record::{Hold, Mode, Part};
+use record::{Cell, Hold, Mode, Part};
 
 // Sums along a section up to x, the low boundary of the next cell: the excess so far, the kept areas' moment about the low
 // end, their first moments, and twice the old areas' moment.
@@ -45,7 +47,8 @@ fn first_moment(w: u64, area: u64) -> u64
     }
 }
 
-// The sums with a cell that keeps the area `keeps` and leaves the excess.
+// The sums with a cell that keeps the area `keeps` and leaves the excess. This and the next two require that the sums leave room for the cell: a
+// fact of the two values together, which no field of either could hold.
 #[tactic(auto, unfolding(crate::specs::Walk::with_kept))]
 fn with_kept(s: Sums, z: CellSizes, keeps: u64, excess: u64) -> Sums
     requires { SumsFit s z × (keeps ≤ 200000000) }
@@ -85,12 +88,12 @@ fn last_cell(s: Sums, z: CellSizes) -> Option<u64>
     Some(t.high - t.first - t.old / 2)
 }
 
-// The section moment of a part's cells, or that its void does not fit.
-fn section(p: Part) -> Option<u64>
-    requires { section_limits p ≡ true }
-    ensures { result ≡ section_answer (cells_of p) }
+// The section moment of the cells of a section, or that its void does not fit.
+fn section(cells: &[Cell]) -> Option<u64>
+    requires { SectionWithin cells.now × (length cells.now ≤ 8) }
+    ensures { result ≡ section_answer cells.now }
 {
-    let last = p.count as usize - 1;
+    let last = cells.len() - 1;
     let mut s = Sums {
         x: 0,
         excess: 0,
@@ -98,10 +101,10 @@ fn section(p: Part) -> Option<u64>
         first: 0,
         old: 0,
     };
-    for i in 0..last {
-        s = inner_cell(s, cells::sizes_of(p.cells[i]));
+    for cell in &cells[..last] {
+        s = inner_cell(s, cells::sizes_of(*cell));
     }
-    last_cell(s, cells::sizes_of(p.cells[last]))
+    last_cell(s, cells::sizes_of(cells[last]))
 }
 
 // The section moment of a partly filled part.
@@ -113,13 +116,13 @@ fn slack_moment(p: Part) -> u64
 }
 
 // The section moment of a part, by the hold's mode.
-#[tactic(auto, unfolding(crate::specs::Walk::part_section_answer, crate::specs::Walk::section_answer))]
+#[tactic(auto, unfolding(crate::specs::Walk::part_section_answer, crate::specs::Walk::section_answer), using(crate::proofs::Walks::part_section_within, crate::proofs::Walks::few_cells))]
 fn part_section(mode: Mode, p: Part) -> Option<u64>
     requires { part_limits mode p ≡ true }
     ensures { result ≡ part_section_answer mode p }
 {
     match mode {
-        Mode::Trimmed | Mode::Voided => section(p),
+        Mode::Trimmed | Mode::Voided => section(p.own_cells()),
         Mode::Partial => Some(slack_moment(p)),
     }
 }
@@ -134,15 +137,12 @@ fn part_moment(mode: Mode, p: Part) -> Option<u64>
     Some((moment * p.length as u64).div_ceil(1000000000))
 }
 
-// The parts of a hold, added up.
-#[tactic(auto, using(crate::proofs::Weights::count_le))]
-fn parts_moment(h: Hold) -> Option<u64>
-    requires { hold_limits h ≡ true }
-    ensures { result ≡ parts_answer h }
+// The parts of a hold, added up: by a loop, no longer than a sum of `Option`s, whose turns show that 64 bits hold it.
+fn parts_moment(mode: Mode, parts: &[Part]) -> Option<u64>
+    requires { (all (part_limits mode) parts.now ≡ true) × (length parts.now ≤ 6) }
+    ensures { result ≡ parts_answer mode parts.now }
 {
-    let mode = h.head.mode;
     let mut sum: u64 = 0;
-    let parts = &h.parts[..h.head.count as usize];
     for part in parts {
         sum += part_moment(mode, *part)?;
     }
@@ -161,14 +161,14 @@ fn percentage_of(mode: Mode) -> u64
 }
 
 // The weight moment of a hold record as it stands, in kg·m.
-#[tactic(auto, unfolding(crate::specs::Sum::weighed_of, crate::specs::Sum::weight_moment, crate::specs::Sum::hold_moment, crate::specs::Walk::parts_answer), using(crate::proofs::Weights::hold_within, crate::proofs::Weights::parts_le, whole::proofs::Dividing::div_ceil_is))]
+#[tactic(auto, unfolding(crate::specs::Sum::weighed_of, crate::specs::Sum::weight_moment, crate::specs::Sum::hold_moment, crate::specs::Walk::parts_answer, crate::specs::Sum::hold_fits), using(crate::proofs::Weights::parts_within, crate::proofs::Weights::few_parts, crate::proofs::Weights::hold_within, crate::proofs::Weights::parts_le, whole::proofs::Dividing::div_ceil_is))]
 pub fn weigh(h: Hold) -> Result<u64, NotWeighed>
     ensures { result ≡ weighed_of h }
 {
     if !hold_limits::hold_limits(h) {
         return Err(NotWeighed::Limits);
     }
-    let sum = parts_moment(h).ok_or(NotWeighed::NoFit)?;
+    let sum = parts_moment(h.head.mode, h.own_parts()).ok_or(NotWeighed::NoFit)?;
     let moment = (sum * percentage_of(h.head.mode)).div_ceil(100);
     Ok((10000 * moment).div_ceil(h.head.factor as u64))
 }

@@ -1,53 +1,45 @@
--- `section`: the section moment of a part's cells, or that its void does not fit.
-use borrow.Author.Rules.{rules}
+-- `section`: the section moment of the cells of a section, or that its void does not fit.
 use mathlib.Core.Path.{◌≡◌}
-use Prim.Native.Nat.{◌-◌}
+use Prim.Native.Nat.{◌-◌, ◌<◌}
 use native.Mathlib.Omega.{arith}
-use lib.ListN.{length}
-use Rattle.whole.proofs.Lists.{unmapped}
-use Rattle.record.specs.Held.{cells_of}
-use Rattle.grain.proofs.Walks.{part_within, ahead_start, part_room, part_next, part_last, part_not_negative}
+use lib.ListN.{length, length-take}
+use lib.Seq.{get_or-take}
+use Rattle.record.proofs.Taken.{past_cell}
+use Rattle.grain.proofs.Walks.{section_room, section_next, section_last, last_above}
 use Rattle.grain.proofs.section.Goals as goal
-
-pub overflow_sub-last : goal.overflow_sub-last
-overflow_sub-last c = (part_within c.args.p c.requires).low
-
-pub loop-i-init : goal.loop-i-init
-loop-i-init c =
-    let p = c.args.p in
-    let w = part_within p c.requires in
-    let e : length p.cells ≡ 8 = search (unmapped, rules) in
-    (w, e, omega (arith, w.low), ahead_start (cells_of p))
 
 pub inner_cell-s-requires : goal.inner_cell-s-requires
 inner_cell-s-requires c =
-    let v = c.loop-i.invariant in
-    rw c.sizes_of.ensures (part_room c.args.p v.0 v.1 c.loop-i.i c.loop-i.s v.3 (omega arith))
+    let l = c.args.cells.now in
+    let i = c.loop-cell.cell-index in
+    let h : i < length l - 1 = omega (arith, length-take (length l - 1) l) in
+    rw (c.sizes_of.ensures, get_or-take (length l - 1) l i past_cell h)
+    (section_room l c.requires.0 c.requires.1 i c.loop-cell.s c.loop-cell.invariant.1 (omega arith))
 
-pub loop-i-preserved : goal.loop-i-preserved
-loop-i-preserved c =
-    let v = c.loop-i.invariant in (
-      v.0,
-      v.1,
-      v.2,
-      rw (c.inner_cell-s.ensures, c.sizes_of.ensures)
-          (part_next c.args.p v.0 v.1 c.loop-i.i c.loop-i.s v.3 (omega arith) (omega arith)),
+pub loop-cell-preserved : goal.loop-cell-preserved
+loop-cell-preserved c =
+    let l = c.args.cells.now in
+    let i = c.loop-cell.cell-index in
+    let h : i < length l - 1 = omega (arith, length-take (length l - 1) l) in (
+      c.loop-cell.invariant.0,
+      rw (c.inner_cell-s.ensures, c.sizes_of.ensures, get_or-take (length l - 1) l i past_cell h)
+          (section_next l c.requires.0 c.requires.1 i c.loop-cell.s c.loop-cell.invariant.1 (omega arith) (omega arith)),
     )
 
 pub last_cell-requires : goal.last_cell-requires
 last_cell-requires c =
-    let v = c.loop-i.invariant in
-    let e : c.loop-i.i ≡ c.args.p.count - 1 = omega arith in
-    let a = rw e at v.3 in
+    let l = c.args.cells.now in
+    let e : c.loop-cell.cell-index ≡ length l - 1 = omega (arith, length-take (length l - 1) l) in
+    let a = rw e at c.loop-cell.invariant.1 in
     rw c.sizes_of-2.ensures (
-      part_room c.args.p v.0 v.1 (c.args.p.count - 1) c.loop-i.s a (omega arith),
-      part_not_negative c.args.p v.0 v.1 (c.args.p.count - 1) c.loop-i.s a (omega arith) (omega arith),
+      section_room l c.requires.0 c.requires.1 (length l - 1) c.loop-cell.s a (omega (arith, c.requires.0.some)),
+      last_above l c.requires.0 c.requires.1 (length l - 1) c.loop-cell.s a (omega (arith, c.requires.0.some)) (omega arith),
     )
 
 pub returns : goal.returns
 returns c =
-    let v = c.loop-i.invariant in
-    let e : c.loop-i.i ≡ c.args.p.count - 1 = omega arith in
-    let a = rw e at v.3 in
+    let l = c.args.cells.now in
+    let e : c.loop-cell.cell-index ≡ length l - 1 = omega (arith, length-take (length l - 1) l) in
+    let a = rw e at c.loop-cell.invariant.1 in
     rw (c.last_cell.ensures, c.sizes_of-2.ensures)
-    (part_last c.args.p v.0 v.1 (c.args.p.count - 1) c.loop-i.s a (omega arith) (omega arith))
+    (section_last l c.requires.0 c.requires.1 (length l - 1) c.loop-cell.s a (omega (arith, c.requires.0.some)) (omega arith))
