@@ -258,8 +258,8 @@ new: (ltb (area (diffs b) (upper s.flood (diffs b))) 429718348)
 
 ORDER_IN_LAWS = """
 file: proofs/Codes.antt
-old: (cond t₂ ShortAtHeel (cond t₃ ShortBeyond
-new: (cond t₃ ShortBeyond (cond t₂ ShortAtHeel
+old: (cond t₂ (Err ShortAtHeel) (cond t₃ (Err ShortBeyond)
+new: (cond t₃ (Err ShortBeyond) (cond t₂ (Err ShortAtHeel)
 old: cases false true t₃ t₄
 new: cases false true false t₄
 old: cases false false true t₄
@@ -271,8 +271,8 @@ new: rw (t.0, fails_false s b n.beyond, t.1, lt-ltb
 old: rw (t.0, t.1, fails_false s b n.beyond, le-ltb
 new: rw (t.0, fails_false s b n.beyond, t.1, le-ltb
 file: proofs/Demand3.antt
-old: (cond t₂ ShortAtHeel (cond t₃ ShortBeyond
-new: (cond t₃ ShortBeyond (cond t₂ ShortAtHeel
+old: (cond t₂ (Err ShortAtHeel) (cond t₃ (Err ShortBeyond)
+new: (cond t₃ (Err ShortBeyond) (cond t₂ (Err ShortAtHeel)
 old: cases false true t₃ t₄
 new: cases false true false t₄
 old: cases false false true t₄

@@ -7,12 +7,13 @@ use mathlib.Core.List.{List}
 use native.Mathlib.Numerals.{add-one}
 use lib.ListN.{get_or}
 use lib.IntN.{ℤ, pos, negsuc}
+use Rattle.std.specs.List.{sum_by, range_with_len}
 use Rattle.sign.specs.Sign.{plus, minus}
 use Rattle.whole.specs.Line.{on_line}
 use Rattle.whole.proofs.Lines.{line_end_lem, line_le}
 use Rattle.arms.specs.Angles.{angle, width}
-use Rattle.arms.proofs.Tens.{width_le}
-use Rattle.area.specs.Area.{area_above, ends_above, counted, stretch_area, area_over}
+use Rattle.arms.proofs.Tens.{width_some, width_le}
+use Rattle.area.specs.Area.{area_above, ends_above, counted, stretch_area, area_over, area}
 use Rattle.arms.specs.Arms.{plus_at, minus_at}
 use Rattle.arms.specs.Walk.{Bounded}
 use Rattle.area.specs.Walk.{EndBounds, part_area}
@@ -105,11 +106,18 @@ part_le h t d e l p w x y =
     let q = line_le h t (plus d) (plus e) (2 ^ 26) l x.above y.above in
     omega (arith, area_le t h (ends_above h t (plus d) (minus d) (plus e) (minus e)) (ends_above h t (minus d) (plus d) (minus e) (plus e)) l p, ends_le h t (plus d) (minus d) (plus e) (minus e), q, mul-le-mul w x.above, mul-le-mul_left (2 ^ 26) w)
 
--- ---- a stretch of the ten DIFFs
-pub area_more : (ds : List ℤ) (u k : ℕ) → area_over (plus_at ds) (minus_at ds) u k + stretch_area (plus_at ds) (minus_at ds) u k ≡ area_over (plus_at ds) (minus_at ds) u (k + 1)
-unfolding area_over
-area_more ds u k = rw (add-one k) refl
+-- ---- the nine stretches of the ten DIFFs, added up
+module _ (ds : List ℤ) (u : ℕ) where
+  stretch_le : (k : ℕ) → Bounded ds → k < 9 → stretch_area (plus_at ds) (minus_at ds) u k ≤ 2 ^ 36
+  stretch_le k b h =
+      part_le (width k) (counted u k) (get_or ds k (pos 0)) (get_or ds (suc k) (pos 0)) (omega arith) (width_some k h) (width_le k h)
+      (end_bounds ds k b (omega arith)) (end_bounds ds (suc k) b (omega arith))
 
-pub area_none : (ds : List ℤ) (u : ℕ) → 0 ≡ area_over (plus_at ds) (minus_at ds) u 0
-unfolding area_over
-area_none ds u = refl
+  pub stretches_fit : Bounded ds → sum_by (stretch_area (plus_at ds) (minus_at ds) u) (range_with_len 0 9) < 2 ^ 64
+  stretches_fit b =
+      let f = λ (k : ℕ) (h : k < 9). stretch_le k b h in
+      omega (arith, f 0 (omega arith), f 1 (omega arith), f 2 (omega arith), f 3 (omega arith), f 4 (omega arith), f 5 (omega arith), f 6 (omega arith), f 7 (omega arith), f 8 (omega arith))
+
+  pub stretches_are : sum_by (stretch_area (plus_at ds) (minus_at ds) u) (range_with_len 0 9) ≡ area ds u
+  unfolding area_over
+  stretches_are = refl

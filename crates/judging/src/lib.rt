@@ -7,7 +7,7 @@ ghost use Rattle.columns.specs.Columns.{in_order};
 ghost use Rattle.stability.specs.Verdict.{shortfall_code, judgement_code};
 ghost use Rattle.judging.specs.Judge.{refusal_code, judged_of, judged_at, Between};
 
-use arms::Basis;
+use arms::{Basis, SoundBasis};
 use condition::Condition;
 use record::{Column, Columns};
 use stability::{Shortfall, Verdict};
@@ -52,13 +52,13 @@ fn judge_between(c: &Condition, i: usize) -> Result<Verdict, NotJudged>
     if GREATEST_WEIGHT < weight {
         return Err(NotJudged::TooHeavy);
     }
-    let b = Basis {
+    let basis = Basis {
         low: of_ten(c.columns.places[i]),
         high: of_ten(c.columns.places[i + 1]),
         load: c.load,
         weight,
     };
-    Ok(stability::judge(c.ship, b))
+    Ok(stability::judge(c.ship, SoundBasis { basis }))
 }
 
 // 30 to 33 in their order, then 34 or the verdict.

@@ -11,6 +11,7 @@ use lib.ListN.{length, get_or}
 use lib.Signed.{lt_z}
 use lib.IntN.{ℤ, pos, negsuc}
 use borrow.Author.Tests.{le-ltb}
+use Rattle.std.specs.List.{list_any, range_with_len}
 use Rattle.sign.specs.Sign.{AtMost, Under}
 use Rattle.sign.proofs.Signs.{lt_under, nlt_most}
 use Rattle.whole.proofs.Lists.{get_d_any}
@@ -96,10 +97,25 @@ module _ (heel up : ℕ) (ds : List ℤ) where
           or_true (fails_among heel up ds n) (fails_at heel up ds n) (ap (fails_at heel up ds) q ∙ e)
       go before (no l) = or_left (fails_among heel up ds n) (fails_at heel up ds n) (before (lt_of_not-le l) e)
 
-  pub among_more : (n : ℕ) → fails_among heel up ds n ≡ false → fails_at heel up ds n ≡ false → fails_among heel up ds (n + 1) ≡ false
-  unfolding fails_among
-  among_more n a b = rw (add-one n, a, b) refl
+  or_none : (a : Bool) → a ≡ (a || false)
+  or_none true = refl
+  or_none false = refl
 
-  pub among_none : fails_among heel up ds 0 ≡ false
+  or_moved : (a b d : Bool) → (a || (b || d)) ≡ ((a || b) || d)
+  or_moved true b d = refl
+  or_moved false b d = refl
+
+  among_from : (n i : ℕ) → fails_among heel up ds (n + i) ≡ (fails_among heel up ds i || list_any (fails_at heel up ds) (range_with_len i n))
   unfolding fails_among
-  among_none = refl
+  among_from zero i =
+      let e : 0 + i ≡ i = omega arith in
+      rw e (or_none (fails_among heel up ds i))
+  among_from (suc n) i =
+      let e : suc n + i ≡ n + (i + 1) = omega arith in
+      let rest = list_any (fails_at heel up ds) (range_with_len (i + 1) n) in
+      ap (fails_among heel up ds) e ∙ among_from n (i + 1) ∙ ap (λ (k : ℕ). fails_among heel up ds k || rest) (add-one i)
+      ∙ sym (or_moved (fails_among heel up ds i) (fails_at heel up ds i) rest)
+
+  pub among_any : list_any (fails_at heel up ds) (range_with_len 0 10) ≡ fails_among heel up ds 10
+  unfolding fails_among
+  among_any = sym (among_from 10 0)

@@ -3,7 +3,7 @@ use mathlib.Core.Path.{◌≡◌, refl, sym, ap, subst}
 use mathlib.Core.Bool.{true, false}
 use mathlib.Core.List.{List}
 use mathlib.Core.Logic.{⊎_elim}
-use Prim.Native.Nat.{ℕ, zero, suc, ◌+◌, ◌*◌, ◌-◌, ◌≤◌, ◌<◌}
+use Prim.Native.Nat.{ℕ, suc, ◌+◌, ◌*◌, ◌-◌, ◌≤◌, ◌<◌}
 use native.Mathlib.Nat.{mul-le-mul_left, le_of_lt, lt_of_not-le, eq-or-lt_of_le, mul-one}
 use native.Mathlib.Decide.{dec_le}
 use native.Mathlib.Omega.{arith}
@@ -19,17 +19,10 @@ use Rattle.stability.specs.Verdict.{Stretch, stretch_of, diff_at, is_below}
 use Rattle.arms.specs.Exact.{angle_of, wide, OnStretch, along, den, exact_kn, exact_taken, Exact, exact_at}
 use Rattle.arms.specs.Figures.{TowardsLower}
 use Rattle.arms.specs.declared.Basis.{Basis}
-use Rattle.arms.proofs.Tens.{angle_is, angle_rises, angle_le, width_some}
-use Rattle.stability.proofs.Stretch.{stretch_is}
+use Rattle.arms.proofs.Tens.{angle_is, angle_le, width_some}
+use Rattle.stability.proofs.Stretch.{angle_up, stretch_is}
 use Rattle.arms.proofs.Floors.{floor_is}
 use Rattle.stability.proofs.Between.{sub_times, floor_move, floor_not_below, floor_below, floor_whole}
-
--- ---- the ten angles rise
-pub angle_up : (i j : ℕ) → i < j → j < 10 → angle i < angle j
-angle_up i zero h k = absurd (omega arith)
-angle_up i (suc j) h k =
-    let last : angle j < angle (suc j) = angle_rises j (omega arith) in
-    ⊎_elim (λ (e : i ≡ j). rw e last) (λ (l : i < j). omega (arith, angle_up i j l (omega arith))) (eq-or-lt_of_le {n = i} {m = j} (omega arith))
 
 -- ---- width i times the value at the whole angle x on the line of the i-th stretch
 abbrev pub line_of : (ℕ → ℕ) → (i x : ℕ) → ℕ

@@ -3,11 +3,9 @@
 
 ghost use Rattle.std.specs.Prelude.{◌≡◌, ◌&&◌, leb, ltb, ◌<◌, ◌≤◌};
 ghost use Rattle.arms.specs.Angles.{angle};
-ghost use Rattle.arms.specs.Judgeable.{Judgeable};
-ghost use Rattle.arms.specs.Walk.{Bounded};
 ghost use Rattle.stability.specs.Verdict.{heel_limit, stretch_of, diff_at, peak, upper, is_below, fails_among, fails_beyond, judged_by, verdict_from, verdict_of};
 
-use arms::Basis;
+use arms::{Diffs, SoundBasis};
 use record::{Rule, Ship};
 
 // The first test that fails.
@@ -37,63 +35,47 @@ const LEAST_GM: i64 = 300000;
 const LEAST_AREA: u64 = 429718347;
 
 // The stretch in which the angle x lies: it begins at the last of the ten angles below x.
-#[tactic(auto, using(crate::proofs::Stretch::below_first, crate::proofs::Stretch::below_found, crate::proofs::Stretch::below_not))]
 fn stretch_of(x: u64) -> usize
     ensures { result ≡ stretch_of x }
 {
-    let mut stretch: usize = 0;
-    for k in 0..8 {
-        if arms::angle_at(k + 1) < x {
-            stretch = k + 1;
-        }
-    }
-    stretch
+    (1..9).take_while(|k| arms::angle_at(*k) < x).count()
 }
 
 // DIFF at the angle x, rounded down.
 #[tactic(auto, unfolding(crate::specs::Verdict::diff_at), using(crate::proofs::Stretch::stretch_is, arms::proofs::Tens::angle_rises, arms::proofs::Tens::width_some, arms::proofs::Tens::width_le))]
-fn diff_at(ds: [i64; 10], x: u64) -> i64
-    requires { Bounded ds × (x ≤ 4000) }
-    ensures { result ≡ diff_at ds x }
+fn diff_at(ds: Diffs, x: u64) -> i64
+    requires { x ≤ 4000 }
+    ensures { result ≡ diff_at ds.values x }
 {
     let i = stretch_of(x);
     let from = arms::angle_at(i);
-    whole::line_at(arms::angle_at(i + 1) - from, x - from, ds[i], ds[i + 1])
+    let width = arms::angle_at(i + 1) - from;
+    whole::line_at(width, x - from, ds.values[i], ds.values[i + 1])
 }
 
-// The least place at which ds is greatest.
-fn peak_of(ds: [i64; 10]) -> usize
-    ensures { result ≡ peak ds }
+// The least place at which DIFF is greatest. By a loop over the places: of several greatest `max_by_key` answers the last, and would have to
+// walk them backwards.
+fn peak_of(ds: Diffs) -> usize
+    ensures { result ≡ peak ds.values }
 {
     let mut best: usize = 0;
     for i in 1..10 {
-        if ds[best] < ds[i] {
+        if ds.values[best] < ds.values[i] {
             best = i;
         }
     }
     best
 }
 
-// Whether DIFF is below zero at the k-th angle, which lies above the heel limit and not above UPPER.
-fn fails_at(heel: u64, upper: u64, d: i64, k: usize) -> bool
-    requires { k < 10 }
-    ensures { result ≡ (ltb heel (angle k) && leb (angle k) upper && is_below d) }
+// Whether DIFF is below zero at one of the ten angles above the heel limit and not above UPPER. The two angles and the DIFFs are parameters
+// here and in `fails_beyond` alone: a struct of them would be made for one call, and taken apart in it.
+fn fails_among(heel: u64, upper: u64, ds: Diffs) -> bool
+    ensures { result ≡ fails_among heel upper ds.values 10 }
 {
-    let a = arms::angle_at(k);
-    heel < a && a <= upper && d < 0
-}
-
-// Whether DIFF is below zero at one of the ten angles above the heel limit and not above UPPER.
-#[tactic(auto, using(crate::proofs::Peaks::among_none, crate::proofs::Peaks::among_found, crate::proofs::Peaks::among_more))]
-fn fails_among(heel: u64, upper: u64, ds: [i64; 10]) -> bool
-    ensures { result ≡ fails_among heel upper ds 10 }
-{
-    for k in 0..10 {
-        if fails_at(heel, upper, ds[k], k) {
-            return true;
-        }
-    }
-    false
+    (0..10).any(|k| {
+        let a = arms::angle_at(k);
+        heel < a && a <= upper && ds.values[k] < 0
+    })
 }
 
 fn heel_limit(s: Ship) -> u64
@@ -107,9 +89,9 @@ fn heel_limit(s: Ship) -> u64
 }
 
 // Whether one of the angles that code 42 names fails.
-fn fails_beyond(heel: u64, upper: u64, ds: [i64; 10]) -> bool
-    requires { Bounded ds × (upper ≤ 4000) }
-    ensures { result ≡ fails_beyond heel upper ds }
+fn fails_beyond(heel: u64, upper: u64, ds: Diffs) -> bool
+    requires { upper ≤ 4000 }
+    ensures { result ≡ fails_beyond heel upper ds.values }
 {
     fails_among(heel, upper, ds) || heel < upper && diff_at(ds, upper) < 0
 }
@@ -136,9 +118,9 @@ fn judgement_of(gm: i64, diff: i64, beyond: bool, area: u64) -> Result<(), Short
 
 // The verdict on ten DIFFs.
 #[tactic(auto, using(crate::proofs::Peaks::peak_is, arms::proofs::Tens::angle_le))]
-fn verdict_from(heel: u64, flood: u64, gm: i64, ds: [i64; 10]) -> Verdict
-    requires { Bounded ds × (heel ≤ 1200) }
-    ensures { result ≡ verdict_from heel (upper flood ds) gm ds }
+fn verdict_from(heel: u64, flood: u64, gm: i64, ds: Diffs) -> Verdict
+    requires { heel ≤ 1200 }
+    ensures { result ≡ verdict_from heel (upper flood ds.values) gm ds.values }
 {
     let upper = flood.min(arms::angle_at(peak_of(ds)));
     let diff = diff_at(ds, heel);
@@ -155,9 +137,8 @@ fn verdict_from(heel: u64, flood: u64, gm: i64, ds: [i64; 10]) -> Verdict
 
 // The verdict on a ship, from two columns around D, a load and a weight moment within their limits.
 #[tactic(auto, unfolding(crate::specs::Verdict::verdict_of))]
-pub fn judge(s: Ship, b: Basis) -> Verdict
-    requires { Judgeable b }
-    ensures { result ≡ verdict_of s b }
+pub fn judge(s: Ship, b: SoundBasis) -> Verdict
+    ensures { result ≡ verdict_of s b.basis }
 {
     let flood = s.flood as u64;
     verdict_from(heel_limit(s), flood, arms::gm_of(b), arms::diffs_of(b))

@@ -5,4 +5,4 @@ use Rattle.stability.specs.Verdict.{Peak}
 use Rattle.stability.proofs.peak_of.Given as goal
 
 abbrev pub invariant-loop-i : goal.invariant-loop-i
-invariant-loop-i l = (length l.ds ≡ 10) × Peak l.ds l.i l.best
+invariant-loop-i l = (length l.ds.values ≡ 10) × Peak l.ds.values l.i l.best
