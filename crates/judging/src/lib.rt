@@ -79,7 +79,7 @@ pub fn judge(c: &Condition) -> Result<Verdict, NotJudged>
     judge_between(c, i)
 }
 
-// The paper's code for each refusal.
+// The paper's code for each refusal: its table, under its own name in specs/ too, and so no `From`.
 pub fn refusal_code(r: NotJudged) -> u8
     ensures { result ≡ refusal_code r }
 {
