@@ -17,8 +17,10 @@ LOWEST = "text"
 
 # Some calls on a line's way through the reader. The graph must have them, or it is not the program's.
 KNOWN_CALLS = [
-    ("panel::step", "hearing::hear"),
-    ("lines::take_lines", "hearing::hear"),
+    ("panel::step", "panel::take"),
+    ("lines::take_lines", "lines::take_line"),
+    ("lines::take_line", "panel::take"),
+    ("panel::take", "hearing::hear"),
     ("hearing::hear", "line_codes::reading_of"),
     ("hearing::hear", "request::request_of"),
     ("line_codes::reading_of", "line_codes::one_form"),

@@ -82,8 +82,6 @@ old: pub handed_room : (r : Request) (n : ℕ) → 96 ≤ n → handed_on (Ok r)
 new: pub handed_room : (r : Request) (n : ℕ) → 128 ≤ n → handed_on (Ok r) n ≡ moment_found r
 old: handed_room r n p = rw (le-ltb n 96 p)
 new: handed_room r n p = rw (le-ltb n 128 p)
-old: handed_any (Ok r) n p = rw (le-ltb n 96 (omega arith))
-new: handed_any (Ok r) n p = rw (le-ltb n 128 (omega arith))
 old: pub handed_none : (h : Result Request Fault) (n : ℕ) → n < 96 → handed_on h n ≡ 0
 new: pub handed_none : (h : Result Request Fault) (n : ℕ) → n < 128 → handed_on h n ≡ 0
 old: handed_none (Ok r) n p = rw (lt-ltb n 96 p)
@@ -135,11 +133,6 @@ new: const SHOW_ROOM: usize = 2200;
 file: crates/panel/proofs/Codes.antt
 old: (ltb lent 2100)
 new: (ltb lent 2200)
-file: crates/panel/proofs/show_form/Answers.antt
-old: 2100 (omega
-new: 2200 (omega
-old: 2100 (search rules)
-new: 2200 (search rules)
 file: crates/panel/proofs/Room.antt
 old: (p : 2100 ≤ n)
 new: (p : 2200 ≤ n)
@@ -287,20 +280,17 @@ def edit(crate, name, laws=""):
 
 REPLACED_STAYS_IN = """
 file: crates/storing/src/lib.rt
-old:     let figure = total::exchange(c.total, old, moment);
-new:     let figure = total::exchange(c.total, h, moment);
+old:     c.total = total::exchange(c.total, c.holds[place], moment);
+new:     c.total = total::exchange(c.total, h, moment);
 file: crates/storing/specs/Storing.antt
 old:       total = exchanged c.total (hold_at c n) w;
 new:       total = exchanged c.total h w;
-file: crates/storing/proofs/with_hold/Answers.antt
-old:     let figure = c.exchange-figure.ensures ∙ ap (λ (h : Hold). exchanged before.total h args.moment) (sym there) in
-new:     let figure = c.exchange-figure.ensures in
 """
 
 DROP_PUTS_ON = """
 file: crates/effects/src/lib.rt
-old:         Request::DropLine(n) => storing::with_hold(c, n, record::no_hold(), 0),
-new:         Request::DropLine(n) => storing::with_hold(c, n, record::no_hold(), c.total),
+old:         Request::DropLine(n) => storing::store_hold(c, n, record::no_hold(), 0),
+new:         Request::DropLine(n) => storing::store_hold(c, n, record::no_hold(), c.total),
 file: crates/effects/specs/Effect.antt
 old: (with_hold c n no_hold 0)
 new: (with_hold c n no_hold c.total)
@@ -321,7 +311,7 @@ new: (at_place n no_hold c.total p long), other_places n no_hold c.total p
 
 def clear_keeps(field):
     """A clear that leaves one field of the condition as it was."""
-    fields = ("shipped", "ship", "loaded", "load", "columns", "holds", "total", "sums")
+    fields = ("ship", "load", "columns", "holds", "total", "sums")
     after = "; ".join(f"{name} = {'c' if name == field else 'empty'}.{name}" for name in fields)
     return f"""
 file: crates/effects/src/lib.rt
@@ -329,8 +319,8 @@ old: ghost use Rattle.effects.specs.Effect.{{effect_of}};
 new: ghost use Rattle.effects.specs.Effect.{{effect_of, cleared_of}};
 old: #[tactic(auto, unfolding(crate::specs::Effect::effect_of))]
 new: fn cleared(c: Condition) -> Condition ensures {{ result ≡ cleared_of c }} {{ let kept = c.{field}; let mut e = condition::empty_condition(); e.{field} = kept; e }} #[tactic(auto, unfolding(crate::specs::Effect::effect_of))]
-old:         Request::ClearLine => condition::empty_condition(),
-new:         Request::ClearLine => cleared(c),
+old:         Request::ClearLine => *c = condition::empty_condition(),
+new:         Request::ClearLine => *c = cleared(*c),
 file: crates/effects/specs/Effect.antt
 old: -- what a request puts into the condition, w being the moment of its hold. It is taken only where the request is answered with 00; elsewhere its value is free,
 new: abbrev pub cleared_of : Condition → Condition
@@ -375,8 +365,8 @@ old: ghost use Rattle.std.specs.Prelude.{◌≡◌, ◌≤◌, length, Some, opt
 new: ghost use Rattle.std.specs.Prelude.{◌≡◌, ◌≤◌, length, Some, option_map, min};
 old: Replies 0 (total_reply figure) 0 result
 new: Replies 0 (total_reply (min figure 1000000000)) 0 result
-old:     let len = reply::total(out, figure);
-new:     let len = reply::total(out, figure.min(1000000000));
+old: reply::total(out, figure))
+new: reply::total(out, figure.min(1000000000)))
 file: crates/panel/specs/Step.antt
 old: ◌∷◌, ℕ, ltb, length}
 new: ◌∷◌, ℕ, min, ltb, length}

@@ -1,31 +1,24 @@
 -- The condition that the panel keeps.
-use Rattle.std.specs.Prelude.{Bool, false, ltb, replicate}
-use Rattle.record.specs.declared.Rule.TheVariants.{New}
-use Rattle.record.specs.declared.Ship.{Ship}
-use Rattle.record.specs.declared.Load.{Load}
+use Rattle.std.specs.Prelude.{◌≡◌, Bool, Option, Some, None, ltb, replicate}
 use Rattle.record.specs.declared.Hold.{Hold}
 use Rattle.record.specs.Filler.{no_columns, no_hold, no_sums}
 use Rattle.condition.specs.declared.Condition.{Condition}
-
-abbrev pub no_ship : Ship
-no_ship = record { rule = New 0; flood = 0 }
-
-abbrev pub no_load : Load
-no_load = record { d = 0; kg = 0; fs = 0 }
 
 -- the condition at the start and after a clear: everything empty
 abbrev pub empty : Condition
 empty =
     record {
-      shipped = false;
-      ship = no_ship;
-      loaded = false;
-      load = no_load;
+      ship = None;
+      load = None;
       columns = no_columns;
       holds = replicate 16 no_hold;
       total = 0;
       sums = no_sums;
     }
+
+-- there is a ship, or a load
+abbrev pub There : {A : Type 0} → Option A → Type 0
+There {A} o = (x : A) × (o ≡ Some x)
 
 -- whether a place holds a hold
 abbrev pub is_held : Hold → Bool

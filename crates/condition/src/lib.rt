@@ -4,16 +4,15 @@
 ghost use Rattle.std.specs.Prelude.{◌≡◌};
 ghost use Rattle.condition.specs.Condition.{empty};
 
-use record::{Columns, Hold, ItemSums, Load, Rule, Ship};
+use record::{Columns, Hold, ItemSums, Load, Ship};
 
-// One loading condition of one ship. A place of `holds` with no parts holds no hold; `total` is the weight moment of all holds, in kg·m;
+// One loading condition of one ship, in fixed memory. A place of `holds` with no parts holds no hold, which the number of its parts says already: with an Option there
+// would be two ways to hold none, `None` and a hold of no parts. `total` is the weight moment of all holds, in kg·m;
 // `sums` are those of the weight items taken since the start or the last removal.
 #[derive(Clone, Copy)]
 pub struct Condition {
-    pub shipped: bool,
-    pub ship: Ship,
-    pub loaded: bool,
-    pub load: Load,
+    pub ship: Option<Ship>,
+    pub load: Option<Load>,
     pub columns: Columns,
     pub holds: [Hold; 16],
     pub total: u64,
@@ -24,18 +23,11 @@ pub struct Condition {
 pub fn empty_condition() -> Condition
     ensures { result ≡ empty }
 {
-    let ship = Ship {
-        rule: Rule::New(0),
-        flood: 0,
-    };
-    let load = Load { d: 0, kg: 0, fs: 0 };
     let h = record::no_hold();
     let holds = [h; 16];
     Condition {
-        shipped: false,
-        ship,
-        loaded: false,
-        load,
+        ship: None,
+        load: None,
         columns: record::no_columns(),
         holds,
         total: 0,

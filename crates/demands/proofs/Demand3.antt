@@ -37,35 +37,38 @@ module _ (c : Condition) (w : Within c) (m : Complete c) where
       let h : i < c.columns.count = omega (arith, held_length c.columns (record { places = w.places.column_places; count = w.places.column_count })) in
       ap (λ (k : Column). length k.kn) (get_or-take c.columns.count c.columns.places i no_column h) ∙ w.places.kn_places i h
 
-  judgeable : (i : ℕ) → columns_around c.load.d (held c.columns) ≡ Some i → Judgeable (basis_at c i)
+  judgeable : (i : ℕ) → columns_around m.ready.load.d (held c.columns) ≡ Some i → Judgeable (basis_at c m.ready.load i)
   judgeable i e =
-      let s = around_at c.load.d (held c.columns) i (within_sound c w).columns e in
+      let s = around_at m.ready.load.d (held c.columns) i (within_sound c w).columns e in
       record {
         low = s.low_limits;
         high = rw add-one at s.high_limits;
         ten_low = ten i (omega (arith, s.place));
         ten_high = rw add-one at (ten (i + 1) s.place);
-        load = (within_sound c w).load m.ready.load;
+        load = (within_sound c w).load m.ready.load m.ready.loaded;
         apart = rw add-one at s.apart;
         from = s.low;
         to = rw add-one at s.high;
         weight = omega (arith, w.total, m.weights);
       }
 
-  given : (i : ℕ) → columns_around c.load.d (held c.columns) ≡ Some i → judged_of c ≡ Ok (verdict_of c.ship (basis_at c i))
+  given : (i : ℕ) → columns_around m.ready.load.d (held c.columns) ≡ Some i → judged_of c ≡ Ok (verdict_of m.ready.ship (basis_at c m.ready.load i))
   given i e =
-      ready_judged c (within_sound c w) m.ready ∙ ap (judged_at c) e ∙ rw (le-leb c.total 1000000000 (omega (arith, w.total, m.weights)))
+      ready_judged c (within_sound c w) m.ready ∙ ap (judged_at c m.ready.ship m.ready.load) e ∙ rw (le-leb c.total 1000000000 (omega (arith, w.total, m.weights)))
 
 pub verdicts_hold_lem : VerdictsHold
 unfolding outcome_of
 verdicts_hold_lem c line lent w m a =
     let p = ready_around c (within_sound c w) m.ready in
-    let b = basis_at c p.0 in
+    let s = m.ready.ship in
+    let b = basis_at c m.ready.load p.0 in
     let jd = judgeable c w m p.0 p.1 in
-    let st = around_at c.load.d (held c.columns) p.0 (within_sound c w).columns p.1 in
+    let st = around_at m.ready.load.d (held c.columns) p.0 (within_sound c w).columns p.1 in
     let o = asked c line lent (Some JudgeLine) a ∙ ap (verdict_given c) (given c w m p.0 p.1) in
-    let z = sizes b jd c.ship in
+    let z = sizes b jd s in
     record {
+      ship = s;
+      shipped = m.ready.shipped;
       place = p.0;
       next = st.place;
       basis = b;
@@ -73,11 +76,11 @@ verdicts_hold_lem c line lent w m a =
       high = rw add-one;
       from = jd.from;
       to = jd.to;
-      load = refl;
+      load = m.ready.loaded;
       weight = w.total;
       code = ap (λ (o : Outcome). o.code) o;
       shown = rw o
-          (verdict_shown _ (verdict_of c.ship b).gm (verdict_of c.ship b).diff (verdict_of c.ship b).upper (verdict_of c.ship b).area
+          (verdict_shown _ (verdict_of s b).gm (verdict_of s b).diff (verdict_of s b).upper (verdict_of s b).area
           (record {
             gm_above = omega (arith, z.gm_above);
             gm_below = omega (arith, z.gm_below);
@@ -86,6 +89,6 @@ verdicts_hold_lem c line lent w m a =
             upper_above = omega (arith, z.upper);
             area_above = omega (arith, z.area);
           }));
-      demand = demand3 c.ship b jd;
-      margins = margins c.ship b jd;
+      demand = demand3 s b jd;
+      margins = margins s b jd;
     }

@@ -119,7 +119,7 @@ module _ (c : Condition) (line : List ℕ) (lent fs : ℕ) (asked : request line
   unfolding outcome_of
   own = ap (λ (o : Outcome). o.code) (sym done) ∙ taken
 
-  made : (step_of c line lent).after.load ≡ weighed_load c.sums fs
+  made : (step_of c line lent).after.load ≡ Some (weighed_load c.sums fs)
   unfolding outcome_of
   made = ap (λ (o : Outcome). o.after.load) done ∙ ap (λ (d : Condition). d.load) (sym (weighed_effect c fs own))
 
@@ -127,9 +127,11 @@ module _ (c : Condition) (line : List ℕ) (lent fs : ℕ) (asked : request line
   enough = leb-true 100 c.sums.tonnes (weighed_passed c fs own).1
 
 pub weighed_is_within_lem : WeighedIsWithin
-weighed_is_within_lem c line lent fs w asked taken =
-    rw (made c line lent fs asked taken)
-    ((weighed_is_a_load c.sums fs).1 ((sums_of_items_lem c.sums).0 w.sums, enough c line lent fs asked taken, (rise_range fs).0 (weighed_passed c fs (own c line lent fs asked taken)).0))
+weighed_is_within_lem c line lent fs w asked taken = (
+  weighed_load c.sums fs,
+  made c line lent fs asked taken,
+  (weighed_is_a_load c.sums fs).1 ((sums_of_items_lem c.sums).0 w.sums, enough c line lent fs asked taken, (rise_range fs).0 (weighed_passed c fs (own c line lent fs asked taken)).0),
+)
 
 pub weighed_makes_the_load_lem : WeighedMakesTheLoad
 weighed_makes_the_load_lem ls line lent fs asked taken =
@@ -137,14 +139,16 @@ weighed_makes_the_load_lem ls line lent fs asked taken =
     let k = kept ls in
     let r = taken_range (items_taken ls) k.taken in
     let least : 100 ≤ (sums_of (items_taken ls)).tonnes = rw k.sums at (enough c line lent fs asked taken) in
-    let rise = (rise_range fs).0 (weighed_passed c fs (own c line lent fs asked taken)).0 in
-    rw (made c line lent fs asked taken, k.sums)
-    (record {
-      d = refl;
-      kg = kg_of_sums (sums_of (items_taken ls)) r (omega arith);
-      rise = refl;
-      range = (weighed_is_a_load (sums_of (items_taken ls)) fs).1 (r, least, rise);
-    })
+    let rise = (rise_range fs).0 (weighed_passed c fs (own c line lent fs asked taken)).0 in (
+      weighed_load (sums_of (items_taken ls)) fs,
+      made c line lent fs asked taken ∙ rw k.sums refl,
+      record {
+        d = refl;
+        kg = kg_of_sums (sums_of (items_taken ls)) r (omega arith);
+        rise = refl;
+        range = (weighed_is_a_load (sums_of (items_taken ls)) fs).1 (r, least, rise);
+      },
+    )
 
 -- ---- which lines they are
 pub weighing_stands_alone_lem : WeighingStandsAlone

@@ -19,6 +19,8 @@ use Rattle.record.specs.declared.ItemSums.{ItemSums}
 use Rattle.record.specs.declared.Weighing.{Weighing}
 use Rattle.record.specs.declared.Weighing.TheVariants.{Weight, Weighed, Unweigh}
 use Rattle.std.specs.Prelude.{Option, Some, None, Ok}
+use Rattle.record.specs.declared.Ship.{Ship}
+use Rattle.record.specs.declared.Load.{Load}
 use Rattle.record.specs.Filler.{no_column, no_part, no_hold, no_sums}
 use Rattle.limits.specs.Ranges.{ColumnRange}
 use Rattle.limits.proofs.Ranges.{ship_range, load_range, column_range, hold_range, place_range, item_range, rise_range}
@@ -74,8 +76,8 @@ record GoodColumns (cs : Columns) : Type 0 where
   taken : ColumnsTaken empty (held cs)
 
 record Good (c : Condition) : Type 0 where
-  ship : c.shipped ≡ true → ship_limits c.ship ≡ true
-  load : c.loaded ≡ true → load_limits c.load ≡ true
+  ship : (s : Ship) → c.ship ≡ Some s → ship_limits s ≡ true
+  load : (l : Load) → c.load ≡ Some l → load_limits l ≡ true
   columns : GoodColumns c.columns
   holds : GoodHolds c.holds
   total : c.total ≡ weight c
@@ -92,8 +94,8 @@ good_within c g =
         part_places = λ n h. (g.holds.each n h).sized.parts;
         cell_places = λ n h i q. (g.holds.each n h).sized.cells i q no_part;
       };
-      ship = λ e. ap (λ ch. ch.code) (ship_taken empty c.ship (g.ship e));
-      load = λ e. ap (λ ch. ch.code) (load_taken empty c.load (g.load e));
+      ship = λ s e. ap (λ ch. ch.code) (ship_taken empty s (g.ship s e));
+      load = λ l e. ap (λ ch. ch.code) (load_taken empty l (g.load l e));
       columns = g.columns.taken;
       holds = λ n h e. ap (λ ch. ch.code) (hold_taken empty (n + 1) (get_or c.holds n no_hold) ((g.holds.each n h).passed e));
       total = g.total;
@@ -115,8 +117,8 @@ no_weight = refl
 good_empty : Good empty
 good_empty =
     record {
-      ship = λ e. let z : ◌≡◌ {A = ℕ} 0 1 = cc in absurd (omega arith);
-      load = λ e. let z : ◌≡◌ {A = ℕ} 0 1 = cc in absurd (omega arith);
+      ship = λ s e. let z : ◌≡◌ {A = ℕ} 0 1 = cc in absurd (omega arith);
+      load = λ l e. let z : ◌≡◌ {A = ℕ} 0 1 = cc in absurd (omega arith);
       columns = record { fitting = record { places = refl; count = omega arith }; ten = λ i h k. absurd (omega arith); taken = tt };
       holds = record { long = refl; each = λ n h. rw (get_or-replicate 16 n no_hold no_hold h) (no_hold_lem n) };
       total = sym no_weight;
@@ -158,6 +160,10 @@ put_column cs k g ten e =
       taken = rw (held_more cs k g.fitting e) (taken_more empty (held cs) k good_empty.columns.fitting g.taken e);
     }
 
+-- what one record has, each that is stored has
+only : {A : Type 0} (f : A → Bool) {x : A} → f x ≡ true → (y : A) → Some x ≡ Some y → f y ≡ true
+only f {x} p y e = let same : x ≡ y = cc in rw same at p
+
 -- ---- each line that is taken
 module _ (c : Condition) (g : Good c) where
   with_sums_lem : (s : ItemSums) → SumsRange s → Good (with_sums c s)
@@ -171,21 +177,21 @@ module _ (c : Condition) (g : Good c) where
       let p = weighed_passed c fs e in
       let l = weighed_load c.sums fs in
       let good = (load_range l).1 ((weighed_is_a_load c.sums fs).1 (g.sums, leb-true 100 c.sums.tonnes p.1, (rise_range fs).0 p.0)) in
-      rw (weighed_taken c fs p.0 p.1) (record { ship = g.ship; load = λ t. good; columns = g.columns; holds = g.holds; total = g.total; sums = g.sums })
+      rw (weighed_taken c fs p.0 p.1) (record { ship = g.ship; load = only load_limits good; columns = g.columns; holds = g.holds; total = g.total; sums = g.sums })
   weighing_good Unweigh e = rw (unweigh_taken c) (with_sums_lem no_sums (omega arith, omega arith))
 
   good_by : (ts : List Token) (lent : ℕ) (r : Request) → Sized r → (outcome_of c ts lent r).code ≡ 0 → Good (outcome_of c ts lent r).after
   unfolding outcome_of
   good_by ts lent (ShipLine s) z e =
       let p = ship_passed c s e in
-      rw (ship_taken c s p) (record { ship = λ t. p; load = g.load; columns = g.columns; holds = g.holds; total = g.total; sums = g.sums })
+      rw (ship_taken c s p) (record { ship = only ship_limits p; load = g.load; columns = g.columns; holds = g.holds; total = g.total; sums = g.sums })
   good_by ts lent (ColumnLine col) sc e =
       let p = column_passed c col e in
       rw (column_taken c col p)
       (record { ship = g.ship; load = g.load; columns = put_column c.columns col g.columns sc p; holds = g.holds; total = g.total; sums = g.sums })
   good_by ts lent (LoadLine l) z e =
       let p = load_passed c l e in
-      rw (load_taken c l p) (record { ship = g.ship; load = λ t. p; columns = g.columns; holds = g.holds; total = g.total; sums = g.sums })
+      rw (load_taken c l p) (record { ship = g.ship; load = only load_limits p; columns = g.columns; holds = g.holds; total = g.total; sums = g.sums })
   good_by ts lent (HoldLine n h) sh e =
       let p = hold_passed c n h e in
       let same : n - 1 + 1 ≡ n = omega (arith, (place_within n p.place).0) in
@@ -245,7 +251,7 @@ reached_are_within_lem ls = good_within (condition_after empty ls) (good_after e
 
 -- ---- a condition of which each record passed its tests, in places of the right number
 places_good :
-    (c : Condition) → Places c → (c.shipped ≡ true → ship_limits c.ship ≡ true) → (c.loaded ≡ true → load_limits c.load ≡ true) →
+    (c : Condition) → Places c → ((s : Ship) → c.ship ≡ Some s → ship_limits s ≡ true) → ((l : Load) → c.load ≡ Some l → load_limits l ≡ true) →
     ColumnsTaken empty (held c.columns) → ((n : ℕ) → n < 16 → is_held (get_or c.holds n no_hold) ≡ true → HoldPassed (n + 1) (get_or c.holds n no_hold)) →
     c.total ≡ weight c → SumsRange c.sums → Good c
 places_good c p ship load columns passed total sums =
@@ -277,7 +283,7 @@ places_good c p ship load columns passed total sums =
 -- one within its limits
 pub steps_stay_within_lem : StepsStayWithin
 steps_stay_within_lem c line lent w =
-    let g = places_good c w.places (λ e. ship_passed empty c.ship (w.ship e)) (λ e. load_passed empty c.load (w.load e)) w.columns (hold_sound c w) w.total ((sums_of_items_lem c.sums).0 w.sums) in
+    let g = places_good c w.places (λ s e. ship_passed empty s (w.ship s e)) (λ l e. load_passed empty l (w.load l e)) w.columns (hold_sound c w) w.total ((sums_of_items_lem c.sums).0 w.sums) in
     good_within (step_of c line lent).after (good_step c g line lent)
 
 -- one whose records are in the paper's ranges
@@ -304,7 +310,7 @@ ranges_are_within_lem c p r =
     let ks = held c.columns in
     let n = length-take c.columns.count c.columns.places in
     good_within c
-    (places_good c p (λ e. (ship_range c.ship).1 (r.ship e)) (λ e. (load_range c.load).1 (r.load e))
+    (places_good c p (λ s e. (ship_range s).1 (r.ship s e)) (λ l e. (load_range l).1 (r.load l e))
     (rw (take-length ks) at (taken_up_to ks (omega (arith, p.column_count)) r.columns r.rising (length ks) (omega arith)))
     (λ m h e.
     let x = get_or c.holds m no_hold in

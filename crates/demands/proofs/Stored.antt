@@ -102,7 +102,7 @@ judge_shows : (c : Condition) → is_one_of refusals (verdict_given c (judged_of
 judge_shows c =
     judged_by_lem c (λ (j : Judged). is_one_of refusals (verdict_given c j).code ≡ true → RefusalShown (verdict_given c j).code (verdict_given c j).reply)
     (λ r t. refusal_shown (refusal_code r))
-    (λ i t. absurd (no_verdict (verdict_of c.ship (basis_at c i)).judgement t))
+    (λ s l i t. absurd (no_verdict (verdict_of s (basis_at c l i)).judgement t))
 
 -- ---- all of them
 pub records_are_stored_lem : RecordsAreStored

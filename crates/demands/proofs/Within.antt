@@ -22,8 +22,8 @@ module _ (c : Condition) (w : Within c) where
   unfolding in_order
   within_sound =
       record {
-        ship = λ e. ship_passed empty c.ship (w.ship e);
-        load = λ e. load_passed empty c.load (w.load e);
+        ship = λ s e. ship_passed empty s (w.ship s e);
+        load = λ l e. load_passed empty l (w.load l e);
         columns = taken_order empty (held c.columns) (record { places = refl; count = omega arith }) refl w.columns;
         total = w.total;
       }

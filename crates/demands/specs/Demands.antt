@@ -142,21 +142,23 @@ WeightIsTotal = (c : Condition) → Within c → TotalWeight c (weight c)
 
 -- a judge line is answered with the verdict between two neighbouring columns around D, and all that demand 3 says holds of it
 pub record Judges (c : Condition) (o : Outcome) : Type 0 where
+  pub ship : Ship
+  pub shipped : c.ship ≡ Some ship
   pub place : ℕ
   pub next : place + 1 < length (held c.columns)
   pub basis : Basis
   pub low : basis.low ≡ get_or (held c.columns) place no_column
   pub high : basis.high ≡ get_or (held c.columns) (place + 1) no_column
-  pub from : basis.low.d ≤ c.load.d
-  pub to : c.load.d ≤ basis.high.d
-  pub load : basis.load ≡ c.load
+  pub from : basis.low.d ≤ basis.load.d
+  pub to : basis.load.d ≤ basis.high.d
+  pub load : c.load ≡ Some basis.load
   pub weight : basis.weight ≡ weight c
-  pub code : o.code ≡ judgement_code (verdict_of c.ship basis).judgement
+  pub code : o.code ≡ judgement_code (verdict_of ship basis).judgement
   pub shown :
-      VerdictShown o.code (verdict_of c.ship basis).gm (verdict_of c.ship basis).diff (verdict_of c.ship basis).upper
-      (verdict_of c.ship basis).area o.reply
-  pub demand : Demand3 c.ship basis
-  pub margins : Margins c.ship basis
+      VerdictShown o.code (verdict_of ship basis).gm (verdict_of ship basis).diff (verdict_of ship basis).upper
+      (verdict_of ship basis).area o.reply
+  pub demand : Demand3 ship basis
+  pub margins : Margins ship basis
 
 -- for every condition that is within its limits and complete, however it came about
 abbrev pub VerdictsHold : Type 0

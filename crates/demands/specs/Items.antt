@@ -71,13 +71,13 @@ pub record LoadOf (items : List WeightItem) (fs : ℕ) (l : Load) : Type 0 where
 abbrev pub WeighedMakesTheLoad : Type 0
 WeighedMakesTheLoad =
     (ls : List Sent) (line : List ℕ) (lent fs : ℕ) → request line ≡ Some (WeighingLine (Weighed fs)) → (step_of (condition_after empty ls) line lent).code ≡ 0 →
-    LoadOf (items_taken ls) fs (step_of (condition_after empty ls) line lent).after.load
+    (l : Load) × ((step_of (condition_after empty ls) line lent).after.load ≡ Some l) × LoadOf (items_taken ls) fs l
 
 -- in every condition within its limits it makes one within the limits of a load
 abbrev pub WeighedIsWithin : Type 0
 WeighedIsWithin =
     (c : Condition) (line : List ℕ) (lent fs : ℕ) → Within c → request line ≡ Some (WeighingLine (Weighed fs)) → (step_of c line lent).code ≡ 0 →
-    LoadRange (step_of c line lent).after.load
+    (l : Load) × ((step_of c line lent).after.load ≡ Some l) × LoadRange l
 
 -- ---- a line to which none of 10 to 13 and 15 applies is one of weights exactly where it is `(weight T H)`, `(weighed FS)` or `(unweigh)`, whatever the
 -- spaces

@@ -9,6 +9,7 @@ use borrow.Author.Tests.{le-leb, lt-leb, leb-true, leb-false}
 use lib.Seq.{get_or-take}
 use Rattle.whole.proofs.Lists.{get_d_any}
 use Rattle.record.proofs.Taken.{past_column}
+use Rattle.record.specs.declared.Load.{Load}
 use Rattle.record.specs.declared.Columns.{Columns}
 use Rattle.record.specs.Held.{held}
 use Rattle.record.specs.Filler.{no_column}
@@ -40,9 +41,9 @@ in_places cs i l h =
     }
 
 -- what judge knows of them before it weighs
-module _ (c : Condition) (i : ℕ) (b : Between c i) where
-  pub between_standing : Standing c.load.d (held c.columns) i
-  between_standing = around_at c.load.d (held c.columns) i b.ordered b.around
+module _ (c : Condition) (l : Load) (i : ℕ) (b : Between c l i) where
+  pub between_standing : Standing l.d (held c.columns) i
+  between_standing = around_at l.d (held c.columns) i b.ordered b.around
 
   pub between_places : InPlaces c.columns i
   between_places = in_places c.columns i b.places between_standing.place

@@ -2,6 +2,8 @@
 -- column it comes to the columns around D.
 use mathlib.Core.Path.{◌≡◌, refl}
 use mathlib.Core.Bool.{true}
+use Rattle.record.specs.declared.Ship.{Ship}
+use Rattle.record.specs.declared.Load.{Load}
 use mathlib.Core.List.{List, [], ◌∷◌}
 use Prim.Native.Nat.{ℕ, ◌+◌, ◌≤◌, ◌<◌}
 use native.Mathlib.Omega.{arith}
@@ -40,8 +42,8 @@ in_order_lem (a ∷ b ∷ ks) l r =
 
 -- ---- a condition whose records are within their limits
 pub record LimitsMet (c : Condition) : Type 0 where
-  pub ship : c.shipped ≡ true → ship_limits c.ship ≡ true
-  pub load : c.loaded ≡ true → load_limits c.load ≡ true
+  pub ship : (s : Ship) → c.ship ≡ Some s → ship_limits s ≡ true
+  pub load : (l : Load) → c.load ≡ Some l → load_limits l ≡ true
   pub columns : in_order (held c.columns) ≡ true
   pub total : c.total ≡ weight c
 
@@ -49,18 +51,18 @@ pub ranges_sound : (c : Condition) → InRanges c → LimitsMet c
 ranges_sound c r =
     let ks = held c.columns in
     record {
-      ship = λ e. (ship_range c.ship).1 (r.ship e);
-      load = λ e. (load_range c.load).1 (r.load e);
+      ship = λ s e. (ship_range s).1 (r.ship s e);
+      load = λ l e. (load_range l).1 (r.load l e);
       columns = in_order_lem ks (λ i h. (column_range (get_or ks i no_column)).1 (r.columns i h)) r.rising;
       total = r.total;
     }
 
 -- judge comes to the columns around D
 module _ (c : Condition) (w : LimitsMet c) (r : Ready c) where
-  pub ready_around : (i : ℕ) × (columns_around c.load.d (held c.columns) ≡ Some i)
-  ready_around = some_place c.load.d (held c.columns) _ r.columns r.from_first r.to_last refl
+  pub ready_around : (i : ℕ) × (columns_around r.load.d (held c.columns) ≡ Some i)
+  ready_around = some_place r.load.d (held c.columns) _ r.columns r.from_first r.to_last refl
 
-  pub ready_judged : judged_of c ≡ judged_at c (columns_around c.load.d (held c.columns))
+  pub ready_judged : judged_of c ≡ judged_at c r.ship r.load (columns_around r.load.d (held c.columns))
   unfolding judged_of
   ready_judged =
-      rw (r.ship, w.ship r.ship, le-leb 2 (length (held c.columns)) r.columns, w.columns, r.load, w.load r.load)
+      rw (r.shipped, w.ship r.ship r.shipped, le-leb 2 (length (held c.columns)) r.columns, w.columns, r.loaded, w.load r.load r.loaded)

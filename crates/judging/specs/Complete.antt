@@ -1,7 +1,9 @@
 -- Documents 01 and 02, in their numbers: a condition whose records and sums are in their ranges and whose figure is true, one that judge is ready for, and one that is complete.
-use Rattle.std.specs.Prelude.{◌≡◌, true, ℕ, ◌+◌, ◌≤◌, ◌<◌, length, get_or}
+use Rattle.std.specs.Prelude.{◌≡◌, Some, ℕ, ◌+◌, ◌≤◌, ◌<◌, length, get_or}
 use Rattle.record.specs.Held.{held, last_d}
 use Rattle.record.specs.Filler.{no_column, no_part, no_hold}
+use Rattle.record.specs.declared.Ship.{Ship}
+use Rattle.record.specs.declared.Load.{Load}
 use Rattle.limits.specs.Ranges.{ShipRange, LoadRange, ColumnRange, HoldRange}
 use Rattle.grain.specs.Figures.{HoldFits}
 use Rattle.weights.specs.Items.{SumsRange}
@@ -20,8 +22,8 @@ pub record Places (c : Condition) : Type 0 where
 -- each record in its ranges, each D above the one before, every void fits, the stored figure is the sum over the holds, and the sums of the
 -- weight items are in their range
 pub record InRanges (c : Condition) : Type 0 where
-  pub ship : c.shipped ≡ true → ShipRange c.ship
-  pub load : c.loaded ≡ true → LoadRange c.load
+  pub ship : (s : Ship) → c.ship ≡ Some s → ShipRange s
+  pub load : (l : Load) → c.load ≡ Some l → LoadRange l
   pub columns : (i : ℕ) → i < length (held c.columns) → ColumnRange (get_or (held c.columns) i no_column)
   pub rising :
       (i : ℕ) → i + 1 < length (held c.columns) →
@@ -35,11 +37,13 @@ pub record InRanges (c : Condition) : Type 0 where
 -- none of 30 to 33 applies, each said by its own words: a ship; two columns; a load; D neither below the first nor above the last
 -- column
 pub record Ready (c : Condition) : Type 0 where
-  pub ship : c.shipped ≡ true
+  pub ship : Ship
+  pub shipped : c.ship ≡ Some ship
   pub columns : 2 ≤ length (held c.columns)
-  pub load : c.loaded ≡ true
-  pub from_first : (get_or (held c.columns) 0 no_column).d ≤ c.load.d
-  pub to_last : c.load.d ≤ last_d (held c.columns)
+  pub load : Load
+  pub loaded : c.load ≡ Some load
+  pub from_first : (get_or (held c.columns) 0 no_column).d ≤ load.d
+  pub to_last : load.d ≤ last_d (held c.columns)
 
 -- and 34 does not either: weight moments together at most 1,000,000,000
 pub record Complete (c : Condition) : Type 0 where

@@ -9,7 +9,7 @@ ghost use Rattle.judging.specs.Judge.{refusal_code, judged_of, judged_at, Betwee
 
 use arms::{Basis, SoundBasis};
 use condition::Condition;
-use record::{Column, Columns};
+use record::{Column, Columns, Load, Ship};
 use stability::{Shortfall, Verdict};
 
 // The greatest weight moment that judge takes, in kg·m.
@@ -44,9 +44,9 @@ fn of_ten(k: Column) -> Column
 
 // The verdict between the columns i and i + 1, or 34.
 #[tactic(auto, using(crate::proofs::Columns::between_below))]
-fn judge_between(c: &Condition, i: usize) -> Result<Verdict, NotJudged>
-    requires { Between c.now i }
-    ensures { result ≡ judged_at c.now (Some i) }
+fn judge_between(c: &Condition, s: Ship, l: Load, i: usize) -> Result<Verdict, NotJudged>
+    requires { Between c.now l i }
+    ensures { result ≡ judged_at c.now s l (Some i) }
 {
     let weight = c.total;
     if GREATEST_WEIGHT < weight {
@@ -55,10 +55,10 @@ fn judge_between(c: &Condition, i: usize) -> Result<Verdict, NotJudged>
     let basis = Basis {
         low: of_ten(c.columns.places[i]),
         high: of_ten(c.columns.places[i + 1]),
-        load: c.load,
+        load: l,
         weight,
     };
-    Ok(stability::judge(c.ship, SoundBasis { basis }))
+    Ok(stability::judge(s, SoundBasis { basis }))
 }
 
 // 30 to 33 in their order, then 34 or the verdict.
@@ -66,20 +66,22 @@ fn judge_between(c: &Condition, i: usize) -> Result<Verdict, NotJudged>
 pub fn judge(c: &Condition) -> Result<Verdict, NotJudged>
     ensures { result ≡ judged_of c.now }
 {
-    if !(c.shipped && limits::ship_limits(c.ship)) {
+    let ship = c.ship.ok_or(NotJudged::NoShip)?;
+    if !limits::ship_limits(ship) {
         return Err(NotJudged::NoShip);
     }
     if !enough_columns(c.columns) {
         return Err(NotJudged::FewColumns);
     }
-    if !(c.loaded && limits::load_limits(c.load)) {
+    let load = c.load.ok_or(NotJudged::NoLoad)?;
+    if !limits::load_limits(load) {
         return Err(NotJudged::NoLoad);
     }
-    let i = columns::columns_around(c.columns, c.load.d).ok_or(NotJudged::OutsideColumns)?;
-    judge_between(c, i)
+    let i = columns::columns_around(c.columns, load.d).ok_or(NotJudged::OutsideColumns)?;
+    judge_between(c, ship, load, i)
 }
 
-// The paper's code for each refusal.
+// The paper's code for each refusal: its table, under its own name in specs/ too, and so no `From`.
 pub fn refusal_code(r: NotJudged) -> u8
     ensures { result ≡ refusal_code r }
 {

@@ -22,7 +22,8 @@ pub struct Feed {
 }
 
 // A block and the place in it from which on lines are taken go together below, and each function gives the place up to which it took them: the service reads its next
-// block into the same memory, and so keeps a place in it from turn to turn, and no slice of it.
+// block into the same memory, and so keeps a place in it from turn to turn, and no slice of it. The memory of the line that has begun and of the replies is lent beside the
+// feed: the laws speak of each of the three, before and after, by its own name.
 
 // ---- lines of a block
 

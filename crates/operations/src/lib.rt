@@ -49,7 +49,7 @@ impl From<NotWeighed> for Refusal {
     }
 }
 
-// The paper's code for each refusal.
+// The paper's code for each refusal: its table, under its own name in specs/ too, and so no `From`.
 fn refusal_code(why: Refusal) -> u8
     ensures { result ≡ refusal_code why }
 {
@@ -97,12 +97,12 @@ pub fn load_answer(l: Load) -> Result<(), Refusal>
     tested(limits::load_limits(l), Refusal::Limits)
 }
 
-// What a list of columns answers, as an operation's answer.
+// What a list of columns answers, as an operation's answer. This and `weighed_answer` are no one generic function: its contract would have to be given the codes of
+// each of the two errors.
 fn added_answer(a: Result<(), NotAdded>) -> Result<(), Refusal>
     ensures { answer_code result ≡ added_code a }
 {
-    a?;
-    Ok(())
+    Ok(a?)
 }
 
 // 00, or 20, 23, 22 in this order.

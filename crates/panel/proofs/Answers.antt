@@ -29,10 +29,6 @@ use Rattle.panel.proofs.Effects.{effect_is}
 pub handed_room : (r : Request) (n : ℕ) → 96 ≤ n → handed_on (Ok r) n ≡ moment_found r
 handed_room r n p = rw (le-ltb n 96 p)
 
-pub handed_any : (h : Result Request Fault) (n : ℕ) → 2100 ≤ n → handed_on h n ≡ handed_on h 2100
-handed_any (Ok r) n p = rw (le-ltb n 96 (omega arith))
-handed_any (Err f) n p = refl
-
 pub handed_none : (h : Result Request Fault) (n : ℕ) → n < 96 → handed_on h n ≡ 0
 handed_none (Ok r) n p = rw (lt-ltb n 96 p)
 handed_none (Err f) n p = refl

@@ -92,7 +92,7 @@ module _ (c : Condition) where
     right_by JudgeLine =
         judged_by_lem c (λ (j : Judged). Right (codes_of JudgeLine) c (changed (verdict_given c j)))
         (λ r. right_same c _ (right_refusal (refusal_code r) (refusal_listed r)))
-        (λ i. right_same c _ (judgement_listed (verdict_of c.ship (basis_at c i)).judgement))
+        (λ s l i. right_same c _ (judgement_listed (verdict_of s (basis_at c l i)).judgement))
     right_by ClearLine = right_taken c _ refl
     right_by ShowLine = right_same c (show_code lent) (show_listed (ltb lent 2100))
     right_by TotalLine = right_same c 0 refl

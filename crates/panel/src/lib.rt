@@ -53,6 +53,9 @@ pub struct Stepped {
 
 // ---- the replies
 
+// That the lent buffer has 96 bytes, and that the line of a request has at most 2,000, is asked from function to function: a type of such a buffer or line would be
+// made in `answer` alone, and opened again for each call of `reply` and `showing`.
+
 // A reply for which no hold was weighed.
 fn plain_reply(code: u8, len: usize) -> Replied
     ensures { result ≡ record { code = code; len = len; moment = 0 } }

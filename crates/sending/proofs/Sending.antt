@@ -17,7 +17,7 @@ use Rattle.record.specs.declared.Hold.{Hold}
 use Rattle.record.specs.declared.WeightItem.{WeightItem}
 use Rattle.record.specs.Filler.{no_column, no_columns, no_part, no_hold, no_item, no_sums}
 use Rattle.record.specs.Held.{held, parts_of}
-use Rattle.std.specs.Prelude.{Ok}
+use Rattle.std.specs.Prelude.{Option, Some, None, Ok}
 use Rattle.columns.specs.Columns.{column_answer, with_column}
 use Rattle.limits.specs.Limits.{ship_limits, load_limits}
 use Rattle.grain.specs.Sum.{weight_moment}
@@ -30,7 +30,7 @@ use Rattle.text.specs.Token.{Token}
 use Rattle.items.proofs.Yields.{Each}
 use Rattle.spelling.specs.Spelling.{spell}
 use Rattle.condition.specs.declared.Condition.{Condition}
-use Rattle.condition.specs.Condition.{no_ship, no_load, empty, is_held}
+use Rattle.condition.specs.Condition.{empty, is_held}
 use Rattle.storing.specs.Storing.{with_ship, with_load, with_columns, with_hold, with_sums}
 use Rattle.storing.proofs.Taking.{taken_is}
 use Rattle.storing.proofs.Columns.{Fitting, held_length, fitting_more, held_more}
@@ -39,7 +39,7 @@ use Rattle.operations.proofs.Effects.{ship_passed, ship_taken, load_passed, load
 use Rattle.panel.specs.Step.{Outcome, answered, outcome_of, step_of, condition_after, outcomes}
 use Rattle.sending.specs.Within.{Within, ColumnsTaken}
 use Rattle.sending.specs.Printed.{ship_tokens, load_tokens, column_tokens, hold_tokens, item_tokens}
-use Rattle.sending.specs.Sending.{form_if, hold_forms, as_lines, SameHold}
+use Rattle.sending.specs.Sending.{form_if, form_of, hold_forms, as_lines, SameHold}
 use Rattle.sending.specs.Laws.{RecordsCanBeSent}
 use Rattle.sending.proofs.Lines.{line_does}
 use Rattle.sending.proofs.Printed.{each_from, print_ship, print_load, print_column, print_hold, print_item}
@@ -94,41 +94,40 @@ abbrev with_all : Columns → List Column → Columns
 with_all cs [] = cs
 with_all cs (k ∷ ks) = with_all (with_column cs k) ks
 
--- on the way from the empty condition: the ship of c or none, its load or none, these columns, holds and figure, and no weight items
-abbrev on : Condition → (shipped loaded : Bool) → Columns → List Hold → (figure : ℕ) → Condition
-on c x y cs hs t =
-    record { shipped = x; ship = cond x c.ship no_ship; loaded = y; load = cond y c.load no_load; columns = cs; holds = hs; total = t; sums = no_sums }
+-- on the way from the empty condition: a ship or none, a load or none, these columns, holds and figure, and no weight items
+abbrev on : Option Ship → Option Load → Columns → List Hold → (figure : ℕ) → Condition
+on x y cs hs t = record { ship = x; load = y; columns = cs; holds = hs; total = t; sums = no_sums }
 
-module _ (lent : ℕ) (room : 96 ≤ lent) (c : Condition) where
-  ship_leads : (x : Bool) → (x ≡ true → ship_limits c.ship ≡ true) → Leads lent empty (form_if x (ship_tokens c.ship)) (on c x false no_columns (replicate 16 no_hold) 0)
-  ship_leads true p = one (ship_does lent room empty c.ship (p refl)) none
-  ship_leads false p = none
+module _ (lent : ℕ) (room : 96 ≤ lent) where
+  ship_leads : (x : Option Ship) → ((s : Ship) → x ≡ Some s → ship_limits s ≡ true) → Leads lent empty (form_of ship_tokens x) (on x None no_columns (replicate 16 no_hold) 0)
+  ship_leads (Some s) p = one (ship_does lent room empty s (p s refl)) none
+  ship_leads None p = none
 
-  module _ (x : Bool) where
+  module _ (x : Option Ship) where
     columns_lead : (cs : Columns) (ks : List Column) (hs : List Hold) → Fitting cs → ColumnsTaken (with_columns empty cs) ks → Each (λ k. length k.kn ≡ 10) ks →
-        Leads lent (on c x false cs hs 0) (map column_tokens ks) (on c x false (with_all cs ks) hs 0) × (held (with_all cs ks) ≡ held cs ++ ks)
+        Leads lent (on x None cs hs 0) (map column_tokens ks) (on x None (with_all cs ks) hs 0) × (held (with_all cs ks) ≡ held cs ++ ks)
     columns_lead cs [] hs f t n = (none, sym (append-nil (held cs)))
     columns_lead cs (k ∷ ks) hs f t n =
         let e = column_passed (with_columns empty cs) k t.0 in
         let r = columns_lead (with_column cs k) ks hs (fitting_more cs k f e) (rw (← column_effect (with_columns empty cs) k t.0) at t.1) n.1 in
-        (one (column_does lent room (on c x false cs hs 0) k n.0 e) r.0, r.1 ∙ rw (held_more cs k f e) (append_snoc (held cs) k ks))
+        (one (column_does lent room (on x None cs hs 0) k n.0 e) r.0, r.1 ∙ rw (held_more cs k f e) (append_snoc (held cs) k ks))
 
-    load_leads : (y : Bool) (cs : Columns) (hs : List Hold) → (y ≡ true → load_limits c.load ≡ true) → Leads lent (on c x false cs hs 0) (form_if y (load_tokens c.load)) (on c x y cs hs 0)
-    load_leads true cs hs p = one (load_does lent room (on c x false cs hs 0) c.load (p refl)) none
-    load_leads false cs hs p = none
+    load_leads : (y : Option Load) (cs : Columns) (hs : List Hold) → ((l : Load) → y ≡ Some l → load_limits l ≡ true) → Leads lent (on x None cs hs 0) (form_of load_tokens y) (on x y cs hs 0)
+    load_leads (Some l) cs hs p = one (load_does lent room (on x None cs hs 0) l (p l refl)) none
+    load_leads None cs hs p = none
 
     -- what the figure is on the way is of no account: it is true in every condition that lines can reach
-    module _ (y : Bool) (cs : Columns) where
+    module _ (y : Option Load) (cs : Columns) where
       hold_leads : (here : Bool) (m : ℕ) (done rest : List Hold) (h : Hold) (t : ℕ) → length done ≡ m → (here ≡ true → GoodHold (suc m) h) →
-          (u : ℕ) × Leads lent (on c x y cs (done ++ no_hold ∷ rest) t) (form_if here (hold_tokens (suc m) h)) (on c x y cs (done ++ cond here (refilled h) no_hold ∷ rest) u)
+          (u : ℕ) × Leads lent (on x y cs (done ++ no_hold ∷ rest) t) (form_if here (hold_tokens (suc m) h)) (on x y cs (done ++ cond here (refilled h) no_hold ∷ rest) u)
       hold_leads true m done rest h t n g =
-          let put = hold_does lent room (on c x y cs (done ++ no_hold ∷ rest) t) (suc m) h (g refl) in
+          let put = hold_does lent room (on x y cs (done ++ no_hold ∷ rest) t) (suc m) h (g refl) in
           (_, one (rw (set_at done no_hold rest (refilled h) (suc m - 1) (omega arith)) at put) none)
       hold_leads false m done rest h t n g = (t, none)
 
       holds_lead : (m : ℕ) (done hs : List Hold) (t : ℕ) → length done ≡ m →
           ((i n : ℕ) → m + i + 1 ≡ n → i < length hs → is_held (get_or hs i no_hold) ≡ true → GoodHold n (get_or hs i no_hold)) →
-          (u : ℕ) × Leads lent (on c x y cs (done ++ replicate (length hs) no_hold) t) (hold_forms (suc m) hs) (on c x y cs (done ++ map refilled_place hs) u)
+          (u : ℕ) × Leads lent (on x y cs (done ++ replicate (length hs) no_hold) t) (hold_forms (suc m) hs) (on x y cs (done ++ map refilled_place hs) u)
       unfolding hold_forms
       holds_lead m done [] t n g = (t, none)
       holds_lead m done (h ∷ hs) t n g =
@@ -182,27 +181,25 @@ module _ (c : Condition) (w : Within c) where
 
 pub records_can_be_sent_lem : RecordsCanBeSent
 records_can_be_sent_lem c lent w room =
-    let x = c.shipped in
-    let y = c.loaded in
+    let x = c.ship in
+    let y = c.load in
     let ks = held c.columns in
     let cs = with_all no_columns ks in
     let hs = replicate 16 no_hold in
-    let ship = ship_leads lent room c x (λ e. ship_passed empty c.ship (w.ship e)) in
-    let columns = columns_lead lent room c x no_columns ks hs (record { places = refl; count = omega arith }) w.columns (tens c w) in
-    let load = load_leads lent room c x y cs hs (λ e. load_passed empty c.load (w.load e)) in
-    let put = holds_lead lent room c x y cs 0 [] c.holds 0 refl (good c w) in
-    let holds : Leads lent (on c x y cs hs 0) (hold_forms 1 c.holds) (on c x y cs (map refilled_place c.holds) put.0) = rw w.places.hold_places at put.1 in
+    let ship = ship_leads lent room x (λ s e. ship_passed empty s (w.ship s e)) in
+    let columns = columns_lead lent room x no_columns ks hs (record { places = refl; count = omega arith }) w.columns (tens c w) in
+    let load = load_leads lent room x y cs hs (λ l e. load_passed empty l (w.load l e)) in
+    let put = holds_lead lent room x y cs 0 [] c.holds 0 refl (good c w) in
+    let holds : Leads lent (on x y cs hs 0) (hold_forms 1 c.holds) (on x y cs (map refilled_place c.holds) put.0) = rw w.places.hold_places at put.1 in
     let given = items_of_sums c.sums ((sums_of_items_lem c.sums).0 w.sums) in
-    let items = items_lead lent room (on c x y cs (map refilled_place c.holds) put.0) (items_of c.sums) (omega arith, omega arith) given.0.ranges (omega (arith, given.0.most)) in
+    let items = items_lead lent room (on x y cs (map refilled_place c.holds) put.0) (items_of c.sums) (omega arith, omega arith) given.0.ranges (omega (arith, given.0.most)) in
     let all = leads_then ship (leads_then columns.0 (leads_then load (leads_then holds items))) in (
       leads_codes all,
       rw (leads_after all)
           (record {
-            shipped = refl;
-            ship = λ e. rw e;
+            ship = refl;
             columns = columns.1;
-            loaded = refl;
-            load = λ e. rw e;
+            load = refl;
             places = length-map c.holds refilled_place ∙ w.places.hold_places;
             holds = same_holds c w;
             sums = added (items_of c.sums) given.0 ∙ given.1;

@@ -1,6 +1,6 @@
 -- Document 01: the records of a condition "sent as lines to a cleared panel", here in the one spelling of document 02, P2; and when a panel
 -- has the same records. The weight items of document 02, P5, are kept by their sums: sent are at most two items that give them.
-use Rattle.std.specs.Prelude.{◌≡◌, Bool, true, cond, List, [], ◌∷◌, ◌++◌, map, ℕ, suc, ◌<◌, length, get_or}
+use Rattle.std.specs.Prelude.{◌≡◌, Bool, cond, Option, Some, None, List, [], ◌∷◌, ◌++◌, map, ℕ, suc, ◌<◌, length, get_or}
 use Rattle.record.specs.declared.Mode.{Mode}
 use Rattle.record.specs.declared.Mode.TheVariants.{Trimmed, Voided, Partial}
 use Rattle.record.specs.declared.Part.{Part}
@@ -19,6 +19,11 @@ use Rattle.sending.specs.Printed.{ship_tokens, load_tokens, column_tokens, hold_
 abbrev pub form_if : Bool → List Token → List (List Token)
 form_if x ts = cond x (ts ∷ []) []
 
+-- the same of a ship or load that may be there
+abbrev pub form_of : {A : Type 0} → (A → List Token) → Option A → List (List Token)
+form_of f (Some x) = f x ∷ []
+form_of f None = []
+
 -- the holds that are held, the first of these places being place n
 unfoldable pub hold_forms : ℕ → List Hold → List (List Token)
 hold_forms n [] = []
@@ -27,9 +32,9 @@ hold_forms n (h ∷ hs) = form_if (is_held h) (hold_tokens n h) ++ hold_forms (s
 -- ship, columns in their order, load, holds, weight items
 abbrev pub record_forms : Condition → List (List Token)
 record_forms c =
-    form_if c.shipped (ship_tokens c.ship)
+    form_of ship_tokens c.ship
     ++ (map column_tokens (held c.columns)
-    ++ (form_if c.loaded (load_tokens c.load) ++ (hold_forms 1 c.holds ++ map item_tokens (items_of c.sums))))
+    ++ (form_of load_tokens c.load ++ (hold_forms 1 c.holds ++ map item_tokens (items_of c.sums))))
 
 -- as lines in the one spelling, each with a buffer of this length
 abbrev pub as_lines : (lent : ℕ) → List (List Token) → List Sent
@@ -49,11 +54,9 @@ pub record SameHold (h after : Hold) : Type 0 where
 
 -- `after` has the records of c; fields and places that no record uses are not compared
 pub record SameRecords (c after : Condition) : Type 0 where
-  pub shipped : after.shipped ≡ c.shipped
-  pub ship : c.shipped ≡ true → after.ship ≡ c.ship
+  pub ship : after.ship ≡ c.ship
   pub columns : held after.columns ≡ held c.columns
-  pub loaded : after.loaded ≡ c.loaded
-  pub load : c.loaded ≡ true → after.load ≡ c.load
+  pub load : after.load ≡ c.load
   pub places : length after.holds ≡ 16
   pub holds : (n : ℕ) → n < 16 → SameHold (get_or c.holds n no_hold) (get_or after.holds n no_hold)
   pub sums : after.sums ≡ c.sums

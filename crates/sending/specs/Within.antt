@@ -1,5 +1,7 @@
 -- Documents 01 and 02: a condition that is within its limits. The same in the paper's numbers: `InRanges` (judging/specs/Complete.antt).
-use Rattle.std.specs.Prelude.{◌≡◌, true, List, [], ◌∷◌, ℕ, ◌+◌, ◌<◌, get_or}
+use Rattle.std.specs.Prelude.{◌≡◌, true, Some, List, [], ◌∷◌, ℕ, ◌+◌, ◌<◌, get_or}
+use Rattle.record.specs.declared.Ship.{Ship}
+use Rattle.record.specs.declared.Load.{Load}
 use Rattle.record.specs.declared.Column.{Column}
 use Rattle.record.specs.Held.{held}
 use Rattle.record.specs.Filler.{no_hold}
@@ -19,8 +21,8 @@ ColumnsTaken c (k ∷ ks) = ((column_operation c k).code ≡ 0) × ColumnsTaken 
 -- of the weight moments over the holds; and the two sums are ones that taken weight items, or none, give
 pub record Within (c : Condition) : Type 0 where
   pub places : Places c
-  pub ship : c.shipped ≡ true → (ship_operation empty c.ship).code ≡ 0
-  pub load : c.loaded ≡ true → (load_operation empty c.load).code ≡ 0
+  pub ship : (s : Ship) → c.ship ≡ Some s → (ship_operation empty s).code ≡ 0
+  pub load : (l : Load) → c.load ≡ Some l → (load_operation empty l).code ≡ 0
   pub columns : ColumnsTaken empty (held c.columns)
   pub holds : (n : ℕ) → n < 16 → is_held (get_or c.holds n no_hold) ≡ true → (hold_operation empty (n + 1) (get_or c.holds n no_hold)).code ≡ 0
   pub total : c.total ≡ weight c

@@ -74,7 +74,7 @@ fn emptied(f: &mut Feed, written: usize)
 
 // Takes lines from standard input until it ends, or this many lines or bytes were read. A turn takes lines from what is left of the
 // block and writes their replies, or reads the next block. `going` is a flag, and no `break`: where it is false, the loop's invariant says that the lines of the whole
-// input were taken; behind a `break` nothing would ask for it. `f`, `line` and `out` are lent apart, as the written replies are a part of `out` alone.
+// input were taken; behind a `break` nothing would ask for it.
 pub fn serve(from: &mut Stdin, to: &mut Stdout, max_lines: u64, max_bytes: u64) {
     let mut block = [0u8; 65536];
     let mut line = [0u8; 2002];

@@ -1,5 +1,5 @@
 -- What an operation that is taken leaves behind, field by field: its own record in its place, everything else as it was.
-use Rattle.std.specs.Prelude.{◌≡◌, true, [], ◌∷◌, ◌++◌, ℕ, ◌+◌, ◌*◌, ◌-◌, ◌≤◌, ◌<◌, length, get_or}
+use Rattle.std.specs.Prelude.{◌≡◌, Some, [], ◌∷◌, ◌++◌, ℕ, ◌+◌, ◌*◌, ◌-◌, ◌≤◌, ◌<◌, length, get_or}
 use Rattle.record.specs.declared.Ship.{Ship}
 use Rattle.record.specs.declared.Load.{Load}
 use Rattle.record.specs.declared.Column.{Column}
@@ -11,10 +11,10 @@ use Rattle.weights.specs.Items.{SumsRange, KgOf}
 use Rattle.condition.specs.declared.Condition.{Condition}
 
 abbrev pub SameShip : Condition → Condition → Type 0
-SameShip c after = (after.shipped ≡ c.shipped) × (after.ship ≡ c.ship)
+SameShip c after = after.ship ≡ c.ship
 
 abbrev pub SameLoad : Condition → Condition → Type 0
-SameLoad c after = (after.loaded ≡ c.loaded) × (after.load ≡ c.load)
+SameLoad c after = after.load ≡ c.load
 
 -- the holds, and the stored figure of their weight moments
 abbrev pub SameHolds : Condition → Condition → Type 0
@@ -30,12 +30,12 @@ OtherPlaces n c after = (m : ℕ) → 1 ≤ m → m ≤ 16 → (m ≡ n → ⊥)
 
 abbrev pub ShipStored : Condition → Ship → (after : Condition) → Type 0
 ShipStored c s after =
-    (after.shipped ≡ true) × (after.ship ≡ s) × SameLoad c after × (after.columns ≡ c.columns) × SameHolds c after
+    (after.ship ≡ Some s) × SameLoad c after × (after.columns ≡ c.columns) × SameHolds c after
     × SameItems c after
 
 abbrev pub LoadStored : Condition → Load → (after : Condition) → Type 0
 LoadStored c l after =
-    (after.loaded ≡ true) × (after.load ≡ l) × SameShip c after × (after.columns ≡ c.columns) × SameHolds c after
+    (after.load ≡ Some l) × SameShip c after × (after.columns ≡ c.columns) × SameHolds c after
     × SameItems c after
 
 abbrev pub ColumnStored : Condition → Column → (after : Condition) → Type 0
@@ -71,8 +71,7 @@ ItemStored c i after =
 -- the items make the load, and stay; KG is said of sums that items give
 abbrev pub WeighedStored : Condition → (fs : ℕ) → (after : Condition) → Type 0
 WeighedStored c fs after =
-    (after.loaded ≡ true)
-    × (after.load.d ≡ c.sums.tonnes) × (SumsRange c.sums → 0 < c.sums.tonnes → KgOf c.sums after.load.kg) × (after.load.fs ≡ fs)
+    ((l : Load) × (after.load ≡ Some l) × (l.d ≡ c.sums.tonnes) × (SumsRange c.sums → 0 < c.sums.tonnes → KgOf c.sums l.kg) × (l.fs ≡ fs))
     × SameItems c after × SameElse c after
 
 -- all items are removed

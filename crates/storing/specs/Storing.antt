@@ -1,5 +1,5 @@
 -- How a record is put into the condition.
-use Rattle.std.specs.Prelude.{true, ℕ, ◌-◌, get_or, set}
+use Rattle.std.specs.Prelude.{Some, ℕ, ◌-◌, get_or, set}
 use Rattle.record.specs.declared.Ship.{Ship}
 use Rattle.record.specs.declared.Load.{Load}
 use Rattle.record.specs.declared.Columns.{Columns}
@@ -12,15 +12,15 @@ use Rattle.total.specs.Total.{exchanged}
 -- a new ship or load replaces the former one
 abbrev pub with_ship : Condition → Ship → Condition
 with_ship c s =
-    record { shipped = true; ship = s; loaded = c.loaded; load = c.load; columns = c.columns; holds = c.holds; total = c.total; sums = c.sums }
+    record { ship = Some s; load = c.load; columns = c.columns; holds = c.holds; total = c.total; sums = c.sums }
 
 abbrev pub with_load : Condition → Load → Condition
 with_load c l =
-    record { shipped = c.shipped; ship = c.ship; loaded = true; load = l; columns = c.columns; holds = c.holds; total = c.total; sums = c.sums }
+    record { ship = c.ship; load = Some l; columns = c.columns; holds = c.holds; total = c.total; sums = c.sums }
 
 abbrev pub with_columns : Condition → Columns → Condition
 with_columns c ks =
-    record { shipped = c.shipped; ship = c.ship; loaded = c.loaded; load = c.load; columns = ks; holds = c.holds; total = c.total; sums = c.sums }
+    record { ship = c.ship; load = c.load; columns = ks; holds = c.holds; total = c.total; sums = c.sums }
 
 -- hold N, from 1 on, stands in the place N − 1
 abbrev pub hold_at : Condition → ℕ → Hold
@@ -30,9 +30,7 @@ hold_at c n = get_or c.holds (n - 1) no_hold
 abbrev pub with_hold : Condition → (n : ℕ) → Hold → (w : ℕ) → Condition
 with_hold c n h w =
     record {
-      shipped = c.shipped;
       ship = c.ship;
-      loaded = c.loaded;
       load = c.load;
       columns = c.columns;
       holds = set c.holds (n - 1) h;
@@ -44,9 +42,7 @@ with_hold c n h w =
 abbrev pub with_sums : Condition → ItemSums → Condition
 with_sums c s =
     record {
-      shipped = c.shipped;
       ship = c.ship;
-      loaded = c.loaded;
       load = c.load;
       columns = c.columns;
       holds = c.holds;

@@ -16,16 +16,14 @@ use record::{Column, Columns, Hold, ItemSums, Load, Ship};
 pub fn store_ship(c: &mut Condition, s: Ship)
     ensures { c.new ≡ with_ship c.old s }
 {
-    c.shipped = true;
-    c.ship = s;
+    c.ship = Some(s);
 }
 
 // A new load replaces the former one.
 pub fn store_load(c: &mut Condition, l: Load)
     ensures { c.new ≡ with_load c.old l }
 {
-    c.loaded = true;
-    c.load = l;
+    c.load = Some(l);
 }
 
 // Whether all places for columns are taken. Apart, since of a condition behind a reference the prover doesn't know that its columns have twenty places.

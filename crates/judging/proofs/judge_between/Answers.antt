@@ -8,8 +8,8 @@ use Rattle.judging.proofs.judge_between.Goals as goal
 
 pub invariant_of-judge : goal.invariant_of-judge
 invariant_of-judge c =
-    let st = between_standing c.args.c.now c.args.i c.requires in
-    let q = between_places c.args.c.now c.args.i c.requires in
+    let st = between_standing c.args.c.now c.args.l c.args.i c.requires in
+    let q = between_places c.args.c.now c.args.l c.args.i c.requires in
     let e1 = c.of_ten.ensures in
     let e2 = c.of_ten-2.ensures in
     record {
@@ -29,6 +29,6 @@ invariant_of-judge c =
 
 pub returns : goal.returns
 returns c =
-    let q = between_places c.args.c.now c.args.i c.requires in
+    let q = between_places c.args.c.now c.args.l c.args.i c.requires in
     let w = le-leb c.args.c.now.total greatest_weight (omega arith) in
     rw (w, c.judge.ensures, c.of_ten.ensures.value, c.of_ten-2.ensures.value, ← q.low, ← q.high, add-one)

@@ -14,16 +14,6 @@ returns-then-f-gt-FILLED c =
     let o = c.first_line-first.auto.out ∙ c.requires.1.output in
     block_waits c.first_line-first.ensures c.take_lines-rest.ensures c.requires.0 c.requires.1.waits (c.take_lines-rest.auto.out ∙ o) o c.if-f-gt-FILLED.true
 
-pub keep-f-requires : goal.keep-f-requires
-keep-f-requires c =
-    let f = c.first_line-first in
-    let pre = c.requires in
-    (omega (arith, c.take_lines-rest.ensures.kept, f.ensures.begun), f.auto.line ∙ pre.1.long)
-
-pub shape_of-line : goal.shape_of-line
-shape_of-line c =
-    c.keep-f.auto.line ∙ c.first_line-first.auto.line
-
 pub returns : goal.returns
 returns c =
     let if1 = c.if-f-eq0 in

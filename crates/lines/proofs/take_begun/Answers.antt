@@ -1,17 +1,9 @@
 -- `take_begun`: the line that has begun is ended: with byte 10 behind it, it is taken as a block of its own.
-use mathlib.Core.Path.{refl, sym}
+use mathlib.Core.Path.{refl}
 use native.Mathlib.Omega.{arith}
-use lib.ListN.{length-set}
-use lib.Seq.{length-take-le}
 use Rattle.lines.proofs.Pieces.{begun_taken, line_ended}
 use borrow.Author.Rules.{rules}
 use Rattle.lines.proofs.take_begun.Goals as goal
-
-pub slice_bounds-take_lines-end : goal.slice_bounds-take_lines-end
-slice_bounds-take_lines-end c = simp length-set (omega (arith, c.requires))
-
-pub slice_bounds-take_lines-end-2 : goal.slice_bounds-take_lines-end-2
-slice_bounds-take_lines-end-2 c = sym (length-take-le _ _ (simp length-set (omega (arith, c.requires))))
 
 pub returns : goal.returns
 returns c =

@@ -1,9 +1,9 @@
 -- `serve`: takes lines from standard input until it ends, or this many lines or bytes were read.
-use mathlib.Core.Path.{refl, sym, ◌∙◌}
+use mathlib.Core.Path.{refl, ◌∙◌}
 use mathlib.Core.Bool.{true, false}
 use Prim.Native.Nat.{◌≤◌}
 use native.Mathlib.Omega.{arith}
-use lib.ListN.{take, length-take}
+use lib.ListN.{take}
 use lib.Seq.{length-take-le}
 use Rattle.service.proofs.Turns.{not_both, used_up, serving_first, serving_fed, serving_read, over_asked, over_none, over_last}
 use borrow.Author.Rules.{rules}
@@ -25,32 +25,6 @@ loop-going-init c =
       stops = λ e. not_both true refl e;
     }
 
-pub slice_bounds-feed_block-end : goal.slice_bounds-feed_block-end
-slice_bounds-feed_block-end c = sym (length-take-le _ _ (omega (arith, c.loop-going.invariant.came, c.loop-going.invariant.block_long)))
-
-pub feed_block-at-requires : goal.feed_block-at-requires
-feed_block-at-requires c =
-    let l = c.loop-going in
-    let v = l.invariant in (
-      omega (arith, c.if-at-n.true, length-take l.n l.block, v.came, v.block_long),
-      record { waits = omega (arith, v.written c.loop-going-test.true); output = v.out_long; begun = v.used; long = v.line_long },
-    )
-
-pub slice_bounds-out-end : goal.slice_bounds-out-end
-slice_bounds-out-end c =
-    let loop = c.loop-going in
-    omega (arith, c.feed_block-at.ensures.room, c.feed_block-at.auto.out, loop.invariant.out_long)
-
-pub slice_bounds-write_out-end : goal.slice_bounds-write_out-end
-slice_bounds-write_out-end c =
-    let loop = c.loop-going in
-    sym (length-take-le _ _ (omega (arith, c.feed_block-at.ensures.room, c.feed_block-at.auto.out, loop.invariant.out_long)))
-
-pub loop-going-smaller-then-at-n : goal.loop-going-smaller-then-at-n
-loop-going-smaller-then-at-n c =
-    let if1 = c.if-at-n in
-    omega (arith, c.feed_block-at.ensures.onward, if1.true)
-
 pub loop-going-preserved-then-at-n : goal.loop-going-preserved-then-at-n
 loop-going-preserved-then-at-n c =
     let b = c.feed_block-at in
@@ -69,9 +43,6 @@ loop-going-preserved-then-at-n c =
       stops = λ e. not_both l.going g e;
     })
 
-pub loop-going-smaller-then-ask-eq0 : goal.loop-going-smaller-then-ask-eq0
-loop-going-smaller-then-ask-eq0 c = rw c.loop-going-test.true (omega arith)
-
 pub loop-going-preserved-then-ask-eq0 : goal.loop-going-preserved-then-ask-eq0
 loop-going-preserved-then-ask-eq0 c =
     let l = c.loop-going in
@@ -88,20 +59,6 @@ loop-going-preserved-then-ask-eq0 c =
       goes = λ e. not_both false e refl;
       stops = λ e. over_asked (v.goes c.loop-going-test.true) u v.used v.line_long l.n (rw c.if-ask-eq0.true at c.to_ask-ask.ensures);
     }
-
-pub fetch-n-requires : goal.fetch-n-requires
-fetch-n-requires c = omega (arith, c.to_ask-ask.ensures.room, c.loop-going.invariant.block_long)
-
-pub tell-requires : goal.tell-requires
-tell-requires c p = omega (arith, c.fetch-n.ensures, c.to_ask-ask.ensures.within p)
-
-pub overflow_sub-more : goal.overflow_sub-more
-overflow_sub-more c = let t = rw c.in-Goes.is at c.tell.ensures in omega (arith, t)
-
-pub loop-going-smaller-in-Goes : goal.loop-going-smaller-in-Goes
-loop-going-smaller-in-Goes c =
-    let if1 = c.if-at-n in
-    let t = rw c.in-Goes.is at c.tell.ensures in omega (arith, t, if1.false)
 
 pub loop-going-preserved-in-Goes : goal.loop-going-preserved-in-Goes
 loop-going-preserved-in-Goes c =
@@ -123,10 +80,6 @@ loop-going-preserved-in-Goes c =
       goes = λ e. serving_read (v.goes e) u n.result (take n.result n.new.block) (length-take-le n.result n.new.block (omega (arith, n.auto.block, v.block_long))) t.1;
       stops = λ e. not_both l.going c.loop-going-test.true e;
     }
-
-pub loop-going-smaller-in-NoMore : goal.loop-going-smaller-in-NoMore
-loop-going-smaller-in-NoMore c =
-    rw c.loop-going-test.true (omega (arith, c.fetch-n.ensures, c.to_ask-ask.ensures.room))
 
 pub loop-going-preserved-in-NoMore : goal.loop-going-preserved-in-NoMore
 loop-going-preserved-in-NoMore c =
@@ -151,17 +104,6 @@ loop-going-preserved-in-NoMore c =
       goes = λ e. not_both false e refl;
       stops = λ e. over_none (v.goes c.loop-going-test.true) u v.used v.line_long n.result (take n.result n.new.block) (length-take-le n.result n.new.block (omega (arith, n.auto.block, v.block_long))) p t;
     }
-
-pub take_begun-requires : goal.take_begun-requires
-take_begun-requires c =
-    let loop = c.loop-going in
-    let v = loop.invariant in
-    record { waits = omega (arith, v.written c.loop-going-test.true); output = v.out_long; begun = v.used; long = v.line_long }
-
-pub loop-going-smaller : goal.loop-going-smaller
-loop-going-smaller c =
-    let fetch = c.fetch-n in
-    rw c.loop-going-test.true (omega (arith, fetch.ensures, c.to_ask-ask.ensures.room))
 
 pub loop-going-preserved : goal.loop-going-preserved
 loop-going-preserved c =
@@ -188,9 +130,3 @@ loop-going-preserved c =
       goes = λ e. not_both false e refl;
       stops = λ e. over_last (v.goes c.loop-going-test.true) u v.used v.line_long n.result (take n.result n.new.block) (length-take-le n.result n.new.block (omega (arith, n.auto.block, v.block_long))) p t b.new.f _ b.ensures;
     }
-
-pub slice_bounds-out-end-2 : goal.slice_bounds-out-end-2
-slice_bounds-out-end-2 c = let v = c.loop-going.invariant in omega (arith, v.waits, v.out_long)
-
-pub slice_bounds-write_out-end-2 : goal.slice_bounds-write_out-end-2
-slice_bounds-write_out-end-2 c = let v = c.loop-going.invariant in sym (length-take-le _ _ (omega (arith, v.waits, v.out_long)))
