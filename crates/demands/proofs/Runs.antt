@@ -20,10 +20,8 @@ use Rattle.columns.specs.Search.{columns_around}
 use Rattle.stability.specs.Verdict.{angles_below, diff_at, peak, fails_among, judged_by, verdict_of}
 use Rattle.text.specs.Token.{tokens, same, value_from, number_of}
 use Rattle.line_codes.specs.Line.{walked, reading_of}
-use Rattle.items.specs.Grammar.{open?, close?, run?, head?, named, number?, numbers?, last_numbers?, items?}
-use Rattle.parts.specs.Shape.{cell?, section?, slack?, body?, part?}
-use Rattle.forms.specs.Shape.{ship?, column?, load?, parts?, hold?, drop?, bare?, form?}
-use Rattle.request.specs.Shape.{show?, weight?, weighed?, line?, request_of}
+use Rattle.items.specs.Grammar.{named, numbers?, last_numbers?, items?}
+use Rattle.request.specs.Shape.{request_of}
 use Rattle.spelling.specs.Spelling.{spell}
 use Rattle.showing.specs.Show.{form_inside}
 use Rattle.reply.specs.Replies.{verdict_reply, total_reply}
@@ -34,25 +32,25 @@ use Rattle.panel.specs.Step.{outcome_of, step_of, condition_after, outcomes}
 use Rattle.demands.specs.Runs.{FirstRun, SecondRun, DeckRun, ShowRun, TotalRun, WeighingRun}
 
 pub first_run_lem : FirstRun
-unfolding within all sum_of tabulate root_digits is_above column_answer in_order padded ship_limits load_limits column_limits cell_limits section_limits slack_limits hold_limits cell_depth cell_area most_held kept_from fits_from first_moment high_moment old_twice section_moment slack_moment deck_moment part_moment hold_moment weight_moment hold_fits exchanged weighed_of angle sine area_over columns_around gm kn_arm kg_arm righting_arm heeling_arm diff angles_below diff_at peak fails_among judged_by verdict_of tokens same value_from number_of walked reading_of open? close? run? head? named number? numbers? last_numbers? items? ship? column? load? cell? section? slack? body? part? parts? hold? drop? bare? form? line? request_of verdict_reply digits figure judged_of ship_operation load_operation column_operation hold_operation drop_operation outcome_of step_of outcomes condition_after
+unfolding within all sum_of tabulate root_digits is_above column_answer in_order padded ship_limits load_limits column_limits cell_limits section_limits slack_limits hold_limits cell_depth cell_area most_held kept_from fits_from first_moment high_moment old_twice section_moment slack_moment deck_moment part_moment hold_moment weight_moment hold_fits exchanged weighed_of angle sine area_over columns_around gm kn_arm kg_arm righting_arm heeling_arm diff angles_below diff_at peak fails_among judged_by verdict_of tokens same value_from number_of walked reading_of named numbers? last_numbers? items? request_of verdict_reply digits figure judged_of ship_operation load_operation column_operation hold_operation drop_operation outcome_of step_of outcomes condition_after
 first_run_lem = (refl, refl)
 
 pub second_run_lem : SecondRun
-unfolding within all sum_of tabulate root_digits is_above column_answer in_order padded ship_limits load_limits column_limits cell_limits section_limits slack_limits hold_limits standard_depth wing_depth cell_depth cell_area most_held kept_from fits_from first_moment high_moment old_twice section_moment slack_moment deck_moment part_moment hold_moment weight_moment hold_fits exchanged weighed_of angle sine area_over columns_around gm kn_arm kg_arm righting_arm heeling_arm diff angles_below diff_at peak fails_among judged_by verdict_of tokens same value_from number_of walked reading_of open? close? run? head? named number? numbers? last_numbers? items? ship? column? load? cell? section? slack? body? part? parts? hold? drop? bare? form? line? request_of verdict_reply digits figure judged_of ship_operation load_operation column_operation hold_operation drop_operation outcome_of step_of outcomes
+unfolding within all sum_of tabulate root_digits is_above column_answer in_order padded ship_limits load_limits column_limits cell_limits section_limits slack_limits hold_limits standard_depth wing_depth cell_depth cell_area most_held kept_from fits_from first_moment high_moment old_twice section_moment slack_moment deck_moment part_moment hold_moment weight_moment hold_fits exchanged weighed_of angle sine area_over columns_around gm kn_arm kg_arm righting_arm heeling_arm diff angles_below diff_at peak fails_among judged_by verdict_of tokens same value_from number_of walked reading_of named numbers? last_numbers? items? request_of verdict_reply digits figure judged_of ship_operation load_operation column_operation hold_operation drop_operation outcome_of step_of outcomes
 second_run_lem = refl
 
 pub deck_run_lem : DeckRun
-unfolding within all sum_of tabulate root_digits is_above column_answer in_order padded ship_limits load_limits column_limits cell_limits section_limits slack_limits hold_limits cell_depth cell_area most_held kept_from fits_from first_moment high_moment old_twice section_moment slack_moment deck_moment part_moment hold_moment weight_moment hold_fits exchanged weighed_of angle sine area_over columns_around gm kn_arm kg_arm righting_arm heeling_arm diff angles_below diff_at peak fails_among judged_by verdict_of tokens same value_from number_of walked reading_of open? close? run? head? named number? numbers? last_numbers? items? ship? column? load? cell? section? slack? body? part? parts? hold? drop? bare? form? line? request_of verdict_reply digits figure judged_of ship_operation load_operation column_operation hold_operation drop_operation outcome_of step_of outcomes condition_after
+unfolding within all sum_of tabulate root_digits is_above column_answer in_order padded ship_limits load_limits column_limits cell_limits section_limits slack_limits hold_limits cell_depth cell_area most_held kept_from fits_from first_moment high_moment old_twice section_moment slack_moment deck_moment part_moment hold_moment weight_moment hold_fits exchanged weighed_of angle sine area_over columns_around gm kn_arm kg_arm righting_arm heeling_arm diff angles_below diff_at peak fails_among judged_by verdict_of tokens same value_from number_of walked reading_of named numbers? last_numbers? items? request_of verdict_reply digits figure judged_of ship_operation load_operation column_operation hold_operation drop_operation outcome_of step_of outcomes condition_after
 deck_run_lem = refl
 
 pub show_run_lem : ShowRun
-unfolding within all padded tokens same value_from number_of walked reading_of open? close? run? head? named number? numbers? last_numbers? items? ship? column? load? cell? section? slack? body? part? parts? hold? drop? bare? form? show? line? request_of form_inside spell judged_of outcome_of step_of outcomes
+unfolding within all padded tokens same value_from number_of walked reading_of named numbers? last_numbers? items? request_of form_inside spell judged_of outcome_of step_of outcomes
 show_run_lem = (refl, refl)
 
 pub total_run_lem : TotalRun
-unfolding within all sum_of tabulate root_digits is_above column_answer in_order padded ship_limits load_limits column_limits cell_limits section_limits slack_limits hold_limits cell_depth cell_area most_held kept_from fits_from first_moment high_moment old_twice section_moment slack_moment deck_moment part_moment hold_moment weight_moment hold_fits exchanged weighed_of angle sine area_over columns_around gm kn_arm kg_arm righting_arm heeling_arm diff angles_below diff_at peak fails_among judged_by verdict_of tokens same value_from number_of walked reading_of open? close? run? head? named number? numbers? last_numbers? items? ship? column? load? cell? section? slack? body? part? parts? hold? drop? bare? form? line? request_of verdict_reply digits figure judged_of ship_operation load_operation column_operation hold_operation drop_operation outcome_of step_of outcomes condition_after total_reply show? form_inside spell
+unfolding within all sum_of tabulate root_digits is_above column_answer in_order padded ship_limits load_limits column_limits cell_limits section_limits slack_limits hold_limits cell_depth cell_area most_held kept_from fits_from first_moment high_moment old_twice section_moment slack_moment deck_moment part_moment hold_moment weight_moment hold_fits exchanged weighed_of angle sine area_over columns_around gm kn_arm kg_arm righting_arm heeling_arm diff angles_below diff_at peak fails_among judged_by verdict_of tokens same value_from number_of walked reading_of named numbers? last_numbers? items? request_of verdict_reply digits figure judged_of ship_operation load_operation column_operation hold_operation drop_operation outcome_of step_of outcomes condition_after total_reply form_inside spell
 total_run_lem = refl
 
 pub weighing_run_lem : WeighingRun
-unfolding within all sum_of tabulate root_digits is_above column_answer in_order padded ship_limits load_limits column_limits cell_limits section_limits slack_limits hold_limits cell_depth cell_area most_held kept_from fits_from first_moment high_moment old_twice section_moment slack_moment deck_moment part_moment hold_moment weight_moment hold_fits exchanged weighed_of angle sine area_over columns_around gm kn_arm kg_arm righting_arm heeling_arm diff angles_below diff_at peak fails_among judged_by verdict_of tokens same value_from number_of walked reading_of open? close? run? head? named number? numbers? last_numbers? items? ship? column? load? cell? section? slack? body? part? parts? hold? drop? bare? form? line? request_of verdict_reply digits figure judged_of ship_operation load_operation column_operation hold_operation drop_operation outcome_of step_of outcomes condition_after total_reply show? form_inside spell item_limits with_item weighed_kg weight? weighed? weighing_operation
+unfolding within all sum_of tabulate root_digits is_above column_answer in_order padded ship_limits load_limits column_limits cell_limits section_limits slack_limits hold_limits cell_depth cell_area most_held kept_from fits_from first_moment high_moment old_twice section_moment slack_moment deck_moment part_moment hold_moment weight_moment hold_fits exchanged weighed_of angle sine area_over columns_around gm kn_arm kg_arm righting_arm heeling_arm diff angles_below diff_at peak fails_among judged_by verdict_of tokens same value_from number_of walked reading_of named numbers? last_numbers? items? request_of verdict_reply digits figure judged_of ship_operation load_operation column_operation hold_operation drop_operation outcome_of step_of outcomes condition_after total_reply form_inside spell item_limits with_item weighed_kg weighing_operation
 weighing_run_lem = refl

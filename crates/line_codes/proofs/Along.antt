@@ -92,9 +92,9 @@ module _ (s : List ℕ) (ok : all allowed s ≡ true) (most : ℕ) (limit : most
   form_by : one_form (deepest (tokens s)) s ≡ is_behind (along most p ts)
   form_by = rw (← limit, walk_tokens most s ok before, come)
 
-  pub form_end : ts ≡ [] → one_form (deepest (tokens s)) s ≡ is_behind p
+  pub form_end : (q : Stand) → p ≡ q → ts ≡ [] → one_form (deepest (tokens s)) s ≡ is_behind q
   unfolding along
-  form_end e = form_by ∙ rw e
+  form_end q there e = form_by ∙ rw (e, there)
 
   module _ (t : Token) (us : List Token) (next : ts ≡ t ∷ us) {q : Stand} (over : over_token most p t ≡ q) where
     pub form_on : along most q us ≡ along most before (tokens s)

@@ -1,5 +1,5 @@
 -- Laws of the test that every number of a line is sound.
-use mathlib.Core.Path.{◌≡◌, refl, ◌∙◌, ap}
+use mathlib.Core.Path.{◌≡◌, refl, sym, ◌∙◌, ap}
 use mathlib.Core.Bool.{Bool, true, false, cond, ◌&&◌}
 use mathlib.Core.List.{List, [], ◌∷◌}
 use Prim.Native.Nat.{ℕ, suc}
@@ -7,7 +7,7 @@ use native.Mathlib.Omega.{arith}
 use lib.Dec.{eqb}
 use lib.ListN.{length, take, drop}
 use Rattle.whole.specs.Lists.{all}
-use Rattle.text.specs.Token.{opened, closed, opening, closing, is_digit, in_run, starts_run, tokens, value, is_number, number_of}
+use Rattle.text.specs.Token.{Token, opened, closed, opening, closing, is_digit, in_run, starts_run, tokens, value, is_number, number_of}
 use Rattle.text.specs.Token.{run_length}
 use Rattle.text.proofs.Runs.{no_run, run_token}
 use Rattle.std.specs.Prelude.{Some, None, is_some}
@@ -46,3 +46,17 @@ sound_number [] {b} {t} f e = absurd (let n : 0 ≡ suc (length t) = ap length f
 sound_number (x ∷ s) {b} {t} f e =
     let h : x ≡ b = cc in
     some_by (is_number (x ∷ s)) (value (x ∷ s)) ∙ rw (h, e)
+
+-- a walk along the tokens: what is left of them passes exactly where the whole does
+module _ {ts : List Token} {whole : Bool} (left : all sound_token ts ≡ whole) where
+  pub sounds_stop : (t : Token) (us : List Token) → ts ≡ t ∷ us → false ≡ sound_token t → false ≡ whole
+  unfolding all
+  sounds_stop t us e f = sym (rw (e, ← f)) ∙ left
+
+  pub sounds_on : (t : Token) (us : List Token) → ts ≡ t ∷ us → true ≡ sound_token t → all sound_token us ≡ whole
+  unfolding all
+  sounds_on t us e f = sym (rw (e, ← f)) ∙ left
+
+  pub sounds_end : ts ≡ [] → true ≡ whole
+  unfolding all
+  sounds_end e = sym (rw e) ∙ left

@@ -1,3 +1,4 @@
 pub mod Lines
 pub mod Tidy
 pub mod Lengths
+pub mod Shown

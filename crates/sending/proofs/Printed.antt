@@ -25,13 +25,12 @@ use Rattle.record.specs.Held.{edge}
 use Rattle.limits.specs.Ranges.{EdgeRange, ShipRange, LoadRange, ColumnRange, CellRange, SectionRange, ItemRange}
 use Rattle.limits.proofs.Ranges.{hold_range, place_range}
 use Rattle.text.specs.Token.{Token, opened, closed, same}
-use Rattle.items.specs.Grammar.{Parsed, got, none, open?, close?, run?, head?, named, number?, numbers?, last_numbers?, items?, several?}
+use Rattle.items.specs.Grammar.{Parsed, got, none, close?, named, number?, numbers?, last_numbers?, items?, several?}
 use Rattle.items.proofs.Yields.{Each, Several}
-use Rattle.parts.specs.Shape.{section_record, cell?, section?, slack?, body?, part?}
+use Rattle.parts.specs.Shape.{section_record, cell?, section?, body?, part?}
 use Rattle.std.specs.Prelude.{Some}
 use Rattle.forms.specs.declared.Request.TheVariants.{ShipLine, ColumnLine, LoadLine, HoldLine, WeighingLine}
-use Rattle.forms.specs.Shape.{ship?, column?, load?, mode_named, parts?, hold?}
-use Rattle.request.specs.Shape.{weight?, line?}
+use Rattle.forms.specs.Shape.{mode_named}
 use Rattle.sending.specs.Printed.{word, number, numbers, form, each_form, rule_word, ship_tokens, load_tokens, column_tokens, cell_tokens, section_items, part_items, part_tokens, mode_word, hold_tokens, item_tokens}
 use Rattle.sending.proofs.Decimals.{decimal_is_read_back}
 use Rattle.sending.proofs.Lines.{Fine, fine_none, fine_more, fine_token, fine_append, fine_brackets, fine_form, Small, fine_number, fine_numbers, Asks}
@@ -44,7 +43,6 @@ each_from P (x ∷ l) d f = (f 0 (omega arith), each_from P l d (λ i h. f (suc 
 
 -- ---- numbers
 read_number : (n : ℕ) (ts : List Token) → Small n → number? (number n ∷ ts) ≡ got n ts
-unfolding number? run?
 read_number n ts p = rw (decimal_is_read_back n (omega arith))
 
 read_numbers : (vs : List ℕ) (ts : List Token) → Each Small vs → numbers? (length vs) (numbers vs ++ ts) ≡ got vs ts
@@ -53,7 +51,7 @@ read_numbers [] ts p = refl
 read_numbers (v ∷ vs) ts p = rw (read_number v (numbers vs ++ ts) p.0, read_numbers vs ts p.1)
 
 read_last : (vs : List ℕ) (ts : List Token) → Each Small vs → last_numbers? (length vs) (numbers vs ++ closed ∷ ts) ≡ got vs ts
-unfolding last_numbers? close?
+unfolding last_numbers?
 read_last vs ts p = rw (read_numbers vs (closed ∷ ts) p)
 
 -- ---- items of a form: what is printed is fine, and read whatever stands behind it
@@ -64,7 +62,7 @@ record Prints {A : Type 0} (item : List Token → Parsed A) (x : A) (k : ℕ) (t
 
 module _ {A B : Type 0} {P : A → Type 0} (item : List Token → Parsed B) (print : A → List Token) (back : A → B) (k : ℕ) (prints : (x : A) → P x → Prints item (back x) k (print x)) where
   read_items : (m : ℕ) (xs : List A) (ts : List Token) → Each P xs → length xs ≤ m → items? m item (each_form print xs ++ closed ∷ ts) ≡ got (map back xs) ts
-  unfolding items? each_form close?
+  unfolding items? each_form
   read_items zero [] ts p h = refl
   read_items zero (x ∷ xs) ts p h = absurd (omega arith)
   read_items (suc m) [] ts p h = refl
@@ -85,7 +83,7 @@ module _ {A B : Type 0} {P : A → Type 0} (item : List Token → Parsed B) (pri
 
 -- ---- cells: each takes at most 37 bytes, its spaces with it
 print_cell : (c : Cell) → CellRange c → Prints cell? c 37 (cell_tokens c)
-unfolding cell? head? open? run? close? named same all within
+unfolding named same all within
 print_cell (Wing w d g l) r =
     let vs : List ℕ = wing_numbers w d g l in
     let s : Each Small vs = (omega arith, (omega arith, (omega arith, (omega arith, tt)))) in
@@ -106,7 +104,6 @@ cells_several p r n =
     record { every = each_from CellRange (cells_of p) (Void 0 0 0) r.4; some = omega arith; most = omega arith }
 
 section_body : (p : Part) → SectionRange p → length p.cells ≡ 8 → Fine 303 (section_items p) × ((us : List Token) → section? (section_items p ++ closed ∷ us) ≡ got (section_record p.length (cells_of p)) us)
-unfolding section?
 section_body p r n =
     let cs = cells_several p r n in (
       fine_number p.length (omega arith) (fine_items cell? cell_tokens (λ c. c) 37 print_cell 8 (cells_of p) cs.every cs.most),
@@ -114,7 +111,6 @@ section_body p r n =
     )
 
 part_body_lem : (m : Mode) (p : Part) → GoodPart m p → Fine 303 (part_items m p) × ((us : List Token) → body? m (part_items m p ++ closed ∷ us) ≡ got (refilled_part m p) us)
-unfolding body? slack?
 part_body_lem Trimmed p g = section_body p g.range g.places
 part_body_lem Voided p g = section_body p g.range g.places
 part_body_lem Partial p g =
@@ -124,7 +120,7 @@ part_body_lem Partial p g =
     (fine_more (omega arith) (fine_numbers vs s), λ us. rw (read_last vs us s))
 
 print_part : (m : Mode) (p : Part) → GoodPart m p → Prints (part? m) (refilled_part m p) 312 (part_tokens m p)
-unfolding part? head? open? run? close? same all within
+unfolding same all within
 print_part m p g =
     let b = part_body_lem m p g in
     record { fine = fine_form "part" refl refl b.0; reads = λ us. rw (append_assoc (part_items m p) (closed ∷ []) us, b.1 us); opens = λ us. refl }
@@ -143,7 +139,7 @@ fine_mode Voided f = fine_more (omega arith) (fine_token (word "voided") refl re
 fine_mode Partial f = fine_token (word "partial") refl refl f
 
 pub print_hold : (n : ℕ) (h : Hold) → GoodHold n h → Asks (hold_tokens n h) (HoldLine n (refilled h))
-unfolding line? hold? parts? head? open? run? named same all within
+unfolding named same all within
 print_hold n h g =
     let m = h.head.mode in
     let ps = parts_of h in
@@ -165,7 +161,7 @@ print_hold n h g =
 
 -- ---- ship, load, column
 print_rule : (r : Rule) (flood : ℕ) → EdgeRange r → flood ≤ 9000 → Asks (form "ship" (word (rule_word r) ∷ numbers (edge r ∷ flood ∷ []))) (ShipLine (record { rule = r; flood = flood }))
-unfolding line? ship? head? open? run? named same all within
+unfolding named same all within
 print_rule (New e) flood p q =
     let vs : List ℕ = e ∷ flood ∷ [] in
     let s : Each Small vs = (omega arith, (omega arith, tt)) in
@@ -179,7 +175,7 @@ pub print_ship : (s : Ship) → ShipRange s → Asks (ship_tokens s) (ShipLine s
 print_ship s r = print_rule s.rule s.flood r.0 r.2
 
 pub print_load : (l : Load) → LoadRange l → Asks (load_tokens l) (LoadLine l)
-unfolding line? load? head? open? run? named same all within
+unfolding named same all within
 print_load l r =
     let vs : List ℕ = l.kg ∷ l.fs ∷ [] in
     let s : Each Small vs = (omega arith, (omega arith, tt)) in
@@ -190,7 +186,7 @@ print_load l r =
     }
 
 pub print_column : (k : Column) → ColumnRange k → length k.kn ≡ 10 → Asks (column_tokens k) (ColumnLine k)
-unfolding line? column? head? open? run? close? named same all within
+unfolding named same all within
 print_column k r n =
     let s = each_from Small k.kn 0 (λ i h. omega (arith, r.5 i h)) in
     let d : Small k.d = omega arith in
@@ -206,7 +202,7 @@ print_column k r n =
 
 -- ---- a weight item
 pub print_item : (i : WeightItem) → ItemRange i → Asks (item_tokens i) (WeighingLine (Weight i))
-unfolding line? weight? head? open? run? named same all within
+unfolding named same all within
 print_item i r =
     let vs : List ℕ = i.height ∷ [] in
     let s : Each Small vs = (omega arith, tt) in
