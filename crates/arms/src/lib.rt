@@ -116,19 +116,19 @@ fn righting_at(b: Basis, k: usize) -> i64
 {
     let t = reach_of(b);
     let kn = arm_over(t.span, t.past, b.low.kn[k] as u64, b.high.kn[k] as u64) / t.span;
-    let kg = whole::divide_up(t.fluid * sine_at(k), 1000);
+    let kg = (t.fluid * sine_at(k)).div_ceil(1000);
     sign::difference(kn, kg)
 }
 
 // The heeling arm at the k-th angle, rounded up, since it heels her.
-#[tactic(auto, unfolding(crate::specs::Arms::heeling_arm), using(crate::proofs::Bounds::load_bounds, crate::proofs::Bounds::heeling_le, crate::proofs::Tens::angle_le))]
+#[tactic(auto, unfolding(crate::specs::Arms::heeling_arm), using(crate::proofs::Bounds::load_bounds, crate::proofs::Bounds::heeling_le, crate::proofs::Tens::angle_le, whole::proofs::Dividing::div_ceil_is))]
 fn heeling_at(b: Basis, k: usize) -> u64
     requires { Judgeable b × (k < 10) }
     ensures value { result ≡ heeling_arm b k }
     ensures upper_bound { result ≤ 2 ^ 34 }
 {
     let moment = 1000 * b.weight * (20000 - angle_at(k));
-    whole::divide_up(moment, 20000 * b.load.d as u64)
+    moment.div_ceil(20000 * b.load.d as u64)
 }
 
 // The arms at each of the ten angles are filled in by loops: of `array::from_fn` it was not proved that each entry is the closure's.
