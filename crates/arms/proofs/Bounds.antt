@@ -1,12 +1,13 @@
 -- How large the figures of a basis within its limits are.
 use mathlib.Core.Path.{◌≡◌, ap₂, ◌∙◌}
 use mathlib.Core.Bool.{true, ◌&&◌}
+use mathlib.Core.List.{List}
 use Prim.Native.Nat.{ℕ, ◌+◌, ◌*◌, ◌-◌, ◌≤◌, ◌<◌}
 use native.Mathlib.Omega.{arith}
 use native.Mathlib.Nat.{mul-le-mul, mul-le-mul_left, div-le_of_le-mul}
 use lib.Dec.{eqb}
 use lib.ListN.{length, get_or}
-use lib.IntN.{pos}
+use lib.IntN.{ℤ, pos}
 use Rattle.whole.specs.Lists.{within, all}
 use Rattle.sign.specs.Sign.{plus, minus}
 use Rattle.whole.proofs.Lists.{and_true, Within, within_true, all_at, tabulate_at, tabulate_length, filled_is}
@@ -103,7 +104,7 @@ module _ (b : Basis) (j : Judgeable b) where
     diff_minus = omega (arith, (diff_reads b k h).minuses, kg_le, heeling_le)
 
   -- the arrays of arms can be subtracted, and their differences are the ten DIFFs
-  pub arms_small : Small (righting_arms b) (heeling_arms b)
+  arms_small : Small (righting_arms b) (heeling_arms b)
   unfolding righting_arm
   arms_small =
       record {
@@ -115,8 +116,19 @@ module _ (b : Basis) (j : Judgeable b) where
   pub diffs_bounded : Bounded (diffs b)
   diffs_bounded = record { above = λ k h. omega (arith, diff_plus k h); below = λ k h. omega (arith, diff_minus k h) }
 
-pub left_overs_are : (b : Basis) → left_overs (righting_arms b) (heeling_arms b) ≡ diffs b
+left_overs_are : (b : Basis) → left_overs (righting_arms b) (heeling_arms b) ≡ diffs b
 unfolding diff
 left_overs_are b =
     filled_is (pos 0) 10 (diff b) (left_overs (righting_arms b) (heeling_arms b)) (tabulate_length 10 _)
     (λ k h. tabulate_at 10 _ k (pos 0) h ∙ ap₂ left_over (tabulate_at 10 (righting_arm b) k (pos 0) h) (tabulate_at 10 (heeling_arm b) k 0 h))
+
+-- the same of the arrays that a program makes
+module _ (b : Basis) {rs : List ℤ} {hs : List ℕ} (e : rs ≡ righting_arms b) (f : hs ≡ heeling_arms b) where
+  pub made_small : Judgeable b → Small rs hs
+  made_small j = rw (e, f) (arms_small b j)
+
+  pub made_are : {ds : List ℤ} → ds ≡ left_overs rs hs → ds ≡ diffs b
+  made_are g = g ∙ ap₂ left_overs e f ∙ left_overs_are b
+
+  pub made_bounded : {ds : List ℤ} → Judgeable b → ds ≡ left_overs rs hs → Bounded ds
+  made_bounded j g = rw (made_are g) (diffs_bounded b j)

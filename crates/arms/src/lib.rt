@@ -51,8 +51,8 @@ const ANGLES: [(u64, u64); 10] = [
     (4000, 642788),
 ];
 
-// The k-th of the ten angles. Here and below k < 10 is asked for as the bound of an index: a type of such a place was thought no plainer,
-// since each closure would make it of k, by the same fact.
+// The k-th of the ten angles. Here and below k < 10 is the bound of an index: a type of such a place is no plainer, since each closure would
+// have to make one of its k.
 #[tactic(auto, unfolding(crate::specs::Angles::angle))]
 pub fn angle_at(k: usize) -> u64
     requires { k < 10 }
@@ -162,6 +162,7 @@ fn differences(righting: [i64; 10], heeling: [u64; 10]) -> [i64; 10]
 }
 
 // DIFF at each of the ten angles.
+#[tactic(auto, using(crate::proofs::Bounds::made_small, crate::proofs::Bounds::made_are, crate::proofs::Bounds::made_bounded))]
 pub fn diffs_of(s: SoundBasis) -> Diffs
     ensures { result.values ≡ diffs s.basis }
 {
