@@ -52,7 +52,7 @@ fn all_allowed(s: &[u8]) -> bool
     s.iter().all(|b| is_allowed(*b))
 }
 
-// 11: every byte may stand in a line.
+// 11: every byte may stand in a line. The test is a function of its own: with the fault in it, the proof of its `all` did not close.
 fn only_allowed(s: &[u8]) -> Result<(), Fault>
     ensures { result ≡ tested BadByte (list_all allowed s.now) }
 {
