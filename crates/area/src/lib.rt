@@ -1,7 +1,7 @@
 // AREA: the area above zero under the straight lines that join the ten DIFFs.
 #![tactic(auto)]
 
-ghost use Rattle.std.specs.Prelude.{◌≡◌, ◌+◌, ◌*◌, ◌/◌, ◌<◌, ◌≤◌, ◌^◌};
+ghost use Rattle.std.specs.Prelude.{◌≡◌, ◌+◌, ◌*◌, ◌<◌, ◌≤◌, ◌^◌};
 ghost use Rattle.whole.specs.Line.{on_line};
 ghost use Rattle.arms.specs.Arms.{plus_at, minus_at};
 ghost use Rattle.area.specs.Area.{area_above, ends_above, stretch_area, area};

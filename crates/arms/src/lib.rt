@@ -3,9 +3,8 @@
 
 ghost use Rattle.std.specs.Prelude.{◌≡◌, ◌+◌, ◌*◌, ◌/◌, ◌<◌, ◌≤◌, ◌^◌};
 ghost use Rattle.sign.specs.Sign.{plus, minus};
-ghost use Rattle.whole.specs.Divide.{ceil_div};
 ghost use Rattle.whole.specs.Line.{on_line};
-ghost use Rattle.arms.specs.Angles.{angle, sine};
+ghost use Rattle.arms.specs.Angles.{angle};
 ghost use Rattle.arms.specs.Arms.{gm, righting_arm, heeling_arm, righting_arms, heeling_arms, diffs};
 ghost use Rattle.arms.specs.Judgeable.{Judgeable};
 ghost use Rattle.arms.specs.Walk.{left_over, left_overs, ReachOf, Small, Bounded};

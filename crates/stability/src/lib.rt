@@ -1,9 +1,8 @@
 // The verdict: DIFF between the ten angles, UPPER, and the first test that fails.
 #![tactic(auto)]
 
-ghost use Rattle.std.specs.Prelude.{◌≡◌, ◌&&◌, leb, ltb, ◌<◌, ◌≤◌};
-ghost use Rattle.arms.specs.Angles.{angle};
-ghost use Rattle.stability.specs.Verdict.{heel_limit, stretch_of, diff_at, peak, upper, is_below, fails_among, fails_beyond, judged_by, verdict_from, verdict_of};
+ghost use Rattle.std.specs.Prelude.{◌≡◌, ◌≤◌};
+ghost use Rattle.stability.specs.Verdict.{heel_limit, stretch_of, diff_at, peak, upper, fails_among, fails_beyond, judged_by, verdict_from, verdict_of};
 
 use arms::{Diffs, SoundBasis};
 use record::{Rule, Ship};
