@@ -162,8 +162,8 @@ fn percentage_of(mode: Mode) -> u64
 
 // The weight moment of a hold record as it stands, in kg·m.
 #[tactic(auto, unfolding(crate::specs::Sum::weighed_of, crate::specs::Sum::weight_moment, crate::specs::Sum::hold_moment, crate::specs::Walk::parts_answer, crate::specs::Sum::hold_fits), using(crate::proofs::Weights::parts_within, crate::proofs::Weights::few_parts, crate::proofs::Weights::hold_within, crate::proofs::Weights::parts_le, whole::proofs::Dividing::div_ceil_is))]
-pub fn weigh(h: Hold) -> Result<u64, NotWeighed>
-    ensures { result ≡ weighed_of h }
+pub fn weigh(h: &Hold) -> Result<u64, NotWeighed>
+    ensures { result ≡ weighed_of h.now }
 {
     if !hold_limits::hold_limits(h) {
         return Err(NotWeighed::Limits);

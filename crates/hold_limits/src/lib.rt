@@ -115,8 +115,8 @@ fn parts_within(mode: Mode, parts: &[Part]) -> bool
 }
 
 #[tactic(auto, unfolding(whole::specs::Lists::within, limits::specs::Limits::hold_limits), using(whole::proofs::Lists::list_all_is))]
-pub fn hold_limits(h: Hold) -> bool
-    ensures { result ≡ hold_limits h }
+pub fn hold_limits(h: &Hold) -> bool
+    ensures { result ≡ hold_limits h.now }
 {
     let head = h.head;
     is_count(6, head.count)

@@ -123,8 +123,8 @@ pub fn weighed_answer(w: Result<u64, NotWeighed>) -> Result<(), Refusal>
 
 // The answer to a hold line: its code is 00, or 20, 21.
 #[tactic(auto, unfolding(crate::specs::Operations::hold_answer))]
-pub fn hold_answer(n: u32, h: Hold) -> Result<u64, NotWeighed>
-    ensures { result ≡ hold_answer n h }
+pub fn hold_answer(n: u32, h: &Hold) -> Result<u64, NotWeighed>
+    ensures { result ≡ hold_answer n h.now }
 {
     if !limits::place_limits(n) {
         return Err(NotWeighed::Limits);

@@ -135,36 +135,36 @@ fn show_form(line: &[u8], out: &mut [u8]) -> Replied
 
 // The reply to the request of a line.
 #[tactic(auto, unfolding(crate::specs::Step::outcome_of), using(crate::proofs::Carrying::carried_show))]
-fn reply_to(c: &Condition, line: &[u8], r: Request, out: &mut [u8]) -> Replied
-    requires asked { option_map carried_request (request_of (tokens line.now)) ≡ Some r }
+fn reply_to(c: &Condition, line: &[u8], r: &Request, out: &mut [u8]) -> Replied
+    requires asked { option_map carried_request (request_of (tokens line.now)) ≡ Some r.now }
     requires room { (length line.now ≤ 2000) × (96 ≤ length out.old) }
-    ensures { Replies (outcome_of c.now (tokens line.now) (length out.old) r).code (outcome_of c.now (tokens line.now) (length out.old) r).reply (moment_found r) result out.old out.new }
+    ensures { Replies (outcome_of c.now (tokens line.now) (length out.old) r.now).code (outcome_of c.now (tokens line.now) (length out.old) r.now).reply (moment_found r.now) result out.old out.new }
 {
     match r {
-        Request::ShipLine(s) => answer_operation(operations::ship_answer(s), out),
-        Request::ColumnLine(k) => answer_operation(operations::column_answer(c, k), out),
-        Request::LoadLine(l) => answer_operation(operations::load_answer(l), out),
-        Request::HoldLine(n, h) => answer_weighed(operations::hold_answer(n, h), out),
-        Request::DropLine(n) => answer_operation(operations::drop_answer(c, n), out),
+        Request::ShipLine(s) => answer_operation(operations::ship_answer(*s), out),
+        Request::ColumnLine(k) => answer_operation(operations::column_answer(c, *k), out),
+        Request::LoadLine(l) => answer_operation(operations::load_answer(*l), out),
+        Request::HoldLine(n, h) => answer_weighed(operations::hold_answer(*n, h), out),
+        Request::DropLine(n) => answer_operation(operations::drop_answer(c, *n), out),
         Request::JudgeLine => give_verdict(c, out),
         Request::ClearLine => answer_with(TAKEN, out),
         Request::ShowLine => show_form(line, out),
         Request::TotalLine => show_total(c.total, out),
-        Request::WeighingLine(w) => answer_operation(operations::weighing_answer(c.sums, w), out),
+        Request::WeighingLine(w) => answer_operation(operations::weighing_answer(c.sums, *w), out),
     }
 }
 
 // The reply to a line and what was heard of it, at the front of the lent buffer.
-pub fn answer(c: &Condition, line: &[u8], h: Result<Request, Fault>, out: &mut [u8]) -> Replied
-    requires { h ≡ heard_of line.now }
-    ensures { Replies (step_of c.now line.now (length out.old)).code (step_of c.now line.now (length out.old)).reply (handed_on h (length out.old)) result out.old out.new }
+pub fn answer(c: &Condition, line: &[u8], h: &Result<Request, Fault>, out: &mut [u8]) -> Replied
+    requires { h.now ≡ heard_of line.now }
+    ensures { Replies (step_of c.now line.now (length out.old)).code (step_of c.now line.now (length out.old)).reply (handed_on h.now (length out.old)) result out.old out.new }
 {
     if out.len() < LEAST_ROOM {
         return plain_reply(NO_ROOM, 0);
     }
     match h {
         Ok(request) => reply_to(c, line, request, out),
-        Err(fault) => answer_with(line_codes::fault_code(fault), out),
+        Err(fault) => answer_with(line_codes::fault_code(*fault), out),
     }
 }
 
@@ -175,8 +175,8 @@ pub fn take(c: &mut Condition, line: &[u8], out: &mut [u8]) -> Replied
     ensures { Steps (step_of c.old line.now (length out.old)) (record { code = result.code; len = result.len; after = c.new }) out.old out.new }
 {
     let h = hearing::hear(line);
-    let r = answer(c, line, h, out);
-    if let Ok(request) = h {
+    let r = answer(c, line, &h, out);
+    if let Ok(request) = &h {
         if r.code == TAKEN {
             effects::effect(c, request, r.moment);
         }

@@ -48,15 +48,15 @@ pub fn store_column(c: &mut Condition, k: Column)
 
 // The hold in its place, where there is one, and its moment in the figure; a drop puts an empty one there, with 0.
 #[tactic(auto, using(crate::proofs::Taking::place_within, crate::proofs::Taking::place_any))]
-pub fn store_hold(c: &mut Condition, n: u32, h: Hold, moment: u64)
-    ensures { c.new ≡ cond (place_limits n) (with_hold c.old n h moment) c.old }
+pub fn store_hold(c: &mut Condition, n: u32, h: &Hold, moment: u64)
+    ensures { c.new ≡ cond (place_limits n) (with_hold c.old n h.now moment) c.old }
 {
     if !limits::place_limits(n) {
         return;
     }
     let place = (n - 1) as usize;
-    c.total = total::exchange(c.total, c.holds[place], moment);
-    c.holds[place] = h;
+    c.total = total::exchange(c.total, &c.holds[place], moment);
+    c.holds[place] = *h;
 }
 
 // The weight items, kept by their sums.

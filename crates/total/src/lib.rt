@@ -17,8 +17,8 @@ pub fn weighed_moment(w: Result<u64, NotWeighed>) -> u64
 
 // The figure with a moment in the place of a hold's: the hold's taken off, the new one put on.
 #[tactic(auto, unfolding(crate::specs::Total::exchanged))]
-pub fn exchange(figure: u64, old: Hold, moment: u64) -> u64
-    ensures { result ≡ exchanged figure old moment }
+pub fn exchange(figure: u64, old: &Hold, moment: u64) -> u64
+    ensures { result ≡ exchanged figure old.now moment }
 {
     let others = figure.saturating_sub(weighed_moment(grain::weigh(old)));
     others.saturating_add(moment)

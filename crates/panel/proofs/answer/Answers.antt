@@ -12,7 +12,7 @@ unfolding over
 returns-then-out-lt-LEAST_ROOM c =
     let k = c.args in
     rw (step_none k.c.now k.line.now (length k.out.now) (search rules), c.plain_reply.ensures)
-    (record { coded = refl; long = refl; moment = sym (handed_none k.h (length k.out.now) (search rules)); written = refl })
+    (record { coded = refl; long = refl; moment = sym (handed_none k.h.now (length k.out.now) (search rules)); written = refl })
 
 pub reply_to-requires : goal.reply_to-requires
 reply_to-requires c =
