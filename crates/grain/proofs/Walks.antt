@@ -20,7 +20,7 @@ use Rattle.cells.specs.Sizes.{cell_most, sizes_of}
 use Rattle.grain.specs.declared.Sums.{Sums}
 use Rattle.grain.specs.Section.{kept_from, kept_of, fits_from, fits, first_moment, high_moment, old_twice, section_moment}
 use Rattle.grain.specs.Within.{SectionWithin}
-use Rattle.grain.specs.Walk.{with_kept, inner_cell, last_cell, last_answer, section_answer, no_sums, SumsFit}
+use Rattle.grain.specs.Walk.{with_kept, inner_cell, last_cell, last_answer, section_answer, SumsFit}
 use Rattle.grain.proofs.Sections.{CellBounds, cell_bounds, areas_le, kept_inner, kept_last, first_half, never_negative}
 
 -- After i cells of l: what the sums have, and what is still ahead, make up the whole; and the sums are small.
@@ -34,20 +34,6 @@ pub record Ahead (l : List Cell) (i : ℕ) (s : Sums) : Type 0 where
   pub high : s.high ≤ i * 2 ^ 44
   pub first : s.first ≤ i * 2 ^ 44
   pub old : s.old ≤ i * 2 ^ 44
-
-pub ahead_start : (l : List Cell) → Ahead l 0 no_sums
-ahead_start l =
-    record {
-      widths = omega arith;
-      highs = omega arith;
-      firsts = omega arith;
-      olds = omega arith;
-      fit = refl;
-      excess = omega arith;
-      high = omega arith;
-      first = omega arith;
-      old = omega arith;
-    }
 
 -- one cell further
 sum_cons : {X : Type 0} (f : X → ℕ) (x : X) (xs : List X) → sum_of f (x ∷ xs) ≡ f x + sum_of f xs

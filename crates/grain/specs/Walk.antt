@@ -40,10 +40,6 @@ last_answer s z = cond (leb (z.area + s.excess) z.most) (Some (moment_of (last_c
 unfoldable pub section_answer : List Cell → Option ℕ
 section_answer cs = cond (fits cs) (Some (section_moment cs)) None
 
--- no sums yet
-abbrev pub no_sums : Sums
-no_sums = record { x = 0; excess = 0; high = 0; first = 0; old = 0 }
-
 -- The sums are small enough for one cell more: a section is at most 40,000 mm wide and 5,000 mm deep.
 pub record SumsFit (s : Sums) (z : CellSizes) : Type 0 where
   pub width : s.x + z.width ≤ 40000

@@ -1,9 +1,9 @@
--- The cells of a part, as the code reads them from its array, and what is read past the end of an array.
+-- How many cells a part has, and what is read past the end of an array.
 use mathlib.Core.Path.{◌≡◌}
 use mathlib.Core.List.{[]}
-use Prim.Native.Nat.{ℕ, ◌≤◌, ◌<◌}
-use lib.ListN.{length, get_or}
-use lib.Seq.{length-take-le, get_or-take}
+use Prim.Native.Nat.{◌≤◌}
+use lib.ListN.{length}
+use lib.Seq.{length-take-le}
 use Rattle.record.specs.declared.Cell.{Cell}
 use Rattle.record.specs.declared.Cell.TheVariants.{Wing}
 use Rattle.record.specs.declared.Part.{Part}
@@ -28,6 +28,3 @@ past_column = record { d = 0; km = 0; kn = [] }
 module _ (p : Part) (fits : p.count ≤ length p.cells) where
   pub cells_length : length (cells_of p) ≡ p.count
   cells_length = length-take-le p.count p.cells fits
-
-  pub cell_at : (i : ℕ) → i < p.count → get_or (cells_of p) i past_cell ≡ get_or p.cells i past_cell
-  cell_at i h = get_or-take p.count p.cells i past_cell h
