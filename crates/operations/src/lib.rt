@@ -64,7 +64,7 @@ fn refusal_code(why: Refusal) -> u8
     }
 }
 
-// 00, or the code of the refusal.
+// 00, or the code of the refusal: a table likewise.
 pub fn answer_code(a: Result<(), Refusal>) -> u8
     ensures { result ≡ answer_code a }
 {

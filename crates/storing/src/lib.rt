@@ -32,7 +32,7 @@ fn is_full(ks: Columns) -> bool
     ensures value { result ≡ leb 20 (length (held ks)) }
     ensures counted { result ≡ leb 20 ks.count }
 {
-    20 <= ks.count
+    ks.places.len() <= ks.count as usize
 }
 
 // One column more, where a place is left for it.
