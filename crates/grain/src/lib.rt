@@ -137,7 +137,7 @@ fn part_moment(mode: Mode, p: Part) -> Option<u64>
     Some((moment * p.length as u64).div_ceil(1000000000))
 }
 
-// The parts of a hold, added up: by a loop, no longer than a sum of `Option`s, whose turns show that 64 bits hold it.
+// The parts of a hold, added up: by a loop. Of a sum of `Option`s it did not prove that each part that its closure takes is within its limits.
 fn parts_moment(mode: Mode, parts: &[Part]) -> Option<u64>
     requires { (all (part_limits mode) parts.now ≡ true) × (length parts.now ≤ 6) }
     ensures { result ≡ parts_answer mode parts.now }

@@ -47,16 +47,12 @@ fn cells_within(cells: &[Cell]) -> bool
     cells.iter().all(|c| cell_limits(*c))
 }
 
-// The widths of cells together: by a loop, since it was not proved of `sum` that 32 bits hold them.
+// The widths of cells together.
 fn width_together(cells: &[Cell]) -> u32
     requires { length cells.now ≤ 8 }
     ensures { result ≡ sum_by cell_width cells.now }
 {
-    let mut sum: u32 = 0;
-    for cell in cells {
-        sum += cell.width() as u32;
-    }
-    sum
+    cells.iter().map(|cell| cell.width() as u32).sum()
 }
 
 // Whether there are cells or parts, and not more than so many.
