@@ -51,22 +51,6 @@ fn part_area(h: u64, t: u64, d: i64, e: i64) -> u64
     area_above(t, h, u, n)
 }
 
-// The whole of a stretch of width h, which is `part_area` with t = h: apart from it for speed, since with the ends at their own size it
-// takes one division, and never the long one.
-#[tactic(auto, using(crate::proofs::Stretches::whole_is, crate::proofs::Stretches::whole_none, crate::proofs::Stretches::whole_small, crate::proofs::Stretches::part_le))]
-fn full_area(h: u64, d: i64, e: i64) -> u64
-    requires { (0 < h) × (h ≤ 500) × EndBounds d × EndBounds e }
-    ensures value { result ≡ part_area h h d e }
-    ensures upper_bound { result ≤ 2 ^ 36 }
-{
-    let u = sign::above_zero(d) + sign::above_zero(e);
-    let n = sign::below_zero(d) + sign::below_zero(e);
-    if u == 0 {
-        return 0;
-    }
-    h * u * u / (2 * (u + n))
-}
-
 // The stretch behind the k-th angle, up to UPPER.
 #[tactic(auto, using(arms::proofs::Tens::angle_rises, crate::proofs::Stretches::between_le, crate::proofs::Stretches::both_bounds, crate::proofs::Stretches::stretch_none, crate::proofs::Stretches::stretch_part))]
 fn stretch_area(ds: Diffs, upper: u64, k: usize) -> u64
@@ -80,7 +64,7 @@ fn stretch_area(ds: Diffs, upper: u64, k: usize) -> u64
     }
     let to = arms::angle_at(k + 1);
     if to <= upper {
-        return full_area(to - from, ds.values[k], ds.values[k + 1]);
+        return part_area(to - from, to - from, ds.values[k], ds.values[k + 1]);
     }
     part_area(to - from, upper - from, ds.values[k], ds.values[k + 1])
 }

@@ -26,11 +26,11 @@ const DEPTHS: [u64; 16] = [
 
 // 500 times the standard depth at the distance x.
 #[tactic(auto, using(crate::proofs::Depths::below_first, crate::proofs::Depths::above_last, crate::proofs::Depths::between, crate::proofs::Depths::between_le))]
-fn standard_depth(x: u64) -> u64
-    requires { x < 65536 }
-    ensures value { result ≡ standard_depth x }
+fn standard_depth(dist: u16) -> u64
+    ensures value { result ≡ standard_depth dist }
     ensures upper_bound { result < 2 ^ 22 }
 {
+    let x = dist as u64;
     if x < 500 {
         return 500 * 570;
     }
@@ -44,12 +44,11 @@ fn standard_depth(x: u64) -> u64
 
 // A wing's depth in tenths of a mm, rounded up once.
 #[tactic(auto, unfolding(crate::specs::Depth::wing_depth))]
-fn wing_depth(dist: u64, girder: u64) -> u64
-    requires { (dist < 65536) × (girder < 65536) }
+fn wing_depth(dist: u16, girder: u16) -> u64
     ensures value { result ≡ wing_depth dist girder }
     ensures upper_bound { result < 2 ^ 20 }
 {
-    let raised = (standard_depth(dist) + 375 * girder).saturating_sub(375 * 600);
+    let raised = (standard_depth(dist) + 375 * girder as u64).saturating_sub(375 * 600);
     raised.max(500 * 100).div_ceil(50)
 }
 
@@ -60,7 +59,7 @@ fn depth_of(cell: Cell) -> u64
     ensures upper_bound { result < 2 ^ 20 }
 {
     match cell {
-        Cell::Wing { dist, girder, .. } => wing_depth(dist as u64, girder as u64),
+        Cell::Wing { dist, girder, .. } => wing_depth(dist, girder),
         Cell::Hatch { opening, .. } => 10 * (opening as u64 + 150),
         Cell::Void { depth, .. } => 10 * depth as u64,
     }
@@ -68,10 +67,11 @@ fn depth_of(cell: Cell) -> u64
 
 // The most that a cell of width w can hold against a lip g.
 #[tactic(auto, using(crate::proofs::Sizes::most_triangle, crate::proofs::Sizes::most_trapezium, crate::proofs::Sizes::most_taken))]
-fn most_held(w: u64, g: u64) -> u64
-    requires { (w < 65536) × (g < 65536) }
-    ensures { result ≡ most_held w g }
+fn most_held(width: u16, lip: u16) -> u64
+    ensures { result ≡ most_held width lip }
 {
+    let w = width as u64;
+    let g = lip as u64;
     if 100000 * g <= SLOPE_15 * w {
         100000 * (g * g) / (2 * SLOPE_15)
     } else {
@@ -85,10 +85,9 @@ pub fn sizes_of(cell: Cell) -> CellSizes
     ensures { result ≡ sizes_of cell }
 {
     let width = cell.width() as u64;
-    let lip = cell.lip() as u64;
     CellSizes {
         width,
         area: (width * depth_of(cell)).div_ceil(10),
-        most: most_held(width, lip),
+        most: most_held(cell.width(), cell.lip()),
     }
 }

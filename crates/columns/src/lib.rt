@@ -35,7 +35,7 @@ pub fn column_answer(cs: Columns, k: Column) -> Result<(), NotAdded>
     }
 }
 
-// The columns with one more.
+// The columns with one more. In a copy: of columns behind a `&mut` the prover does not know that there are twenty places.
 pub fn with_column(cs: Columns, k: Column) -> Columns
     requires { cs.count < 20 }
     ensures { result ≡ with_column cs k }

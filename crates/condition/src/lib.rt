@@ -19,7 +19,7 @@ pub struct Condition {
     pub sums: ItemSums,
 }
 
-// The condition at the start, and after a clear.
+// The condition at the start, and after a clear. Not by `Default`, for the reason of `record::no_hold`.
 pub fn empty_condition() -> Condition
     ensures { result ≡ empty }
 {

@@ -26,14 +26,15 @@ pub enum Request {
     WeighingLine(Weighing),
 }
 
-// The word of a rule, apart from the edge behind it.
+// The word of a rule, apart from the edge behind it: a table of words and of what makes the rule would hold function pointers, as of cells.
 #[derive(Clone, Copy, Debug, PartialEq, Eq)]
 pub enum RuleWord {
     NewWord,
     OldWord,
 }
 
-// The word of a form, apart from what stands behind it: a show takes these words and no others.
+// The word of a form, apart from what stands behind it: a show takes these words and no others, and a table of words and readers would hold function
+// pointers.
 #[derive(Clone, Copy, Debug, PartialEq, Eq)]
 pub enum FormWord {
     ShipWord,

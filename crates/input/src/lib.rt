@@ -66,7 +66,8 @@ pub fn most_bytes() -> u64
     9000000000000
 }
 
-// How many bytes are asked for next, where `left` lines and `more` bytes may still come and `used` bytes of a line are kept.
+// How many bytes are asked for next, where `left` lines and `more` bytes may still come and `used` bytes of a line are kept: 0 where the service stops. An
+// `Option` would leave open what `Some(0)` asks for.
 pub fn to_ask(left: u64, used: usize, more: u64) -> usize
     ensures { Asked left used more result }
 {

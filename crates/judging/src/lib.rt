@@ -81,7 +81,8 @@ pub fn judge(c: &Condition) -> Result<Verdict, NotJudged>
     judge_between(c, ship, load, i)
 }
 
-// The paper's code for each refusal: its table, under its own name in specs/ too, and so no `From`.
+// The paper's code for each refusal. A table by its name, and no `From`: no `?` ever turns a refusal into its number, and `u8::from` would not say which
+// paper's table it is. So are the two below.
 pub fn refusal_code(r: NotJudged) -> u8
     ensures { result ≡ refusal_code r }
 {

@@ -23,7 +23,7 @@ pub struct Feed {
 
 // A block and the place in it from which on lines are taken go together below, and each function gives the place up to which it took them: the service reads its next
 // block into the same memory, and so keeps a place in it from turn to turn, and no slice of it. The memory of the line that has begun and of the replies is lent beside the
-// feed: the laws speak of each of the three, before and after, by its own name.
+// feed: the laws speak of each of the three, before and after, by its own name, and a struct of the three would hold two `&mut` (see `reply::append`).
 
 // ---- lines of a block
 
@@ -45,7 +45,8 @@ fn take_line(c: &mut Condition, line: &[u8], out: &mut [u8], filled: usize) -> u
     r.len
 }
 
-// Takes the lines of a block from `at` on: up to the last that byte 10 ends, while lines are left and there is room for a reply.
+// Takes the lines of a block from `at` on: up to the last that byte 10 ends, while lines are left and there is room for a reply. No `for` over the lines: whether one
+// more is taken hangs on what the replies before it have filled.
 fn take_lines(f: &mut Feed, block: &[u8], at: usize, out: &mut [u8]) -> usize
     requires { (at ≤ length block.now) × (f.old.filled ≤ 65536) × (length out.old ≡ 65536) }
     ensures { FromBlock f.old block.now at out.old (record { feed = f.new; at = result }) out.new }

@@ -49,7 +49,7 @@ impl From<NotWeighed> for Refusal {
     }
 }
 
-// The paper's code for each refusal: its table, under its own name in specs/ too, and so no `From`.
+// The paper's code for each refusal. A table by its name, and no `From`: no `?` ever turns a refusal into its number.
 fn refusal_code(why: Refusal) -> u8
     ensures { result ≡ refusal_code why }
 {

@@ -34,7 +34,7 @@ const NO_ROOM_FOR_SHOW: u8 = 16;
 const TAKEN: u8 = 0;
 
 // A code, which is the number that the paper has printed, the length of the reply that shows it, and the moment of a hold that was weighed for it, which its effect puts into the figure.
-// The moment is 0 where no hold was weighed: the effect of a hold alone reads it.
+// The moment is 0 where no hold was weighed: the effect of a hold alone reads it, and with an `Option` would have to say a second time what none is.
 #[derive(Clone, Copy)]
 pub struct Replied {
     pub code: u8,
@@ -172,7 +172,8 @@ pub fn answer(c: &Condition, line: &[u8], h: &Result<Request, Fault>, out: &mut 
 
 // One line, in place: its reply at the front of the lent buffer, and its effect on the condition, which is large.
 pub fn take(c: &mut Condition, line: &[u8], out: &mut [u8]) -> Replied
-    ensures { Steps (step_of c.old line.now (length out.old)) (record { code = result.code; len = result.len; after = c.new }) out.old out.new }
+    ensures steps { Steps (step_of c.old line.now (length out.old)) (record { code = result.code; len = result.len; after = c.new }) out.old out.new }
+    ensures moment { result.moment ≡ handed_on (heard_of line.now) (length out.old) }
 {
     let h = hearing::hear(line);
     let r = answer(c, line, &h, out);

@@ -5,8 +5,7 @@ ghost use Rattle.std.specs.Prelude.{◌≡◌};
 ghost use Rattle.record.specs.Held.{edge, cell_width, cell_lip, cells_of, parts_of, held};
 ghost use Rattle.record.specs.Filler.{no_cell, no_part, no_hold, no_column, no_columns, no_sums};
 
-// The rule that judges the ship, with the angle of deck-edge immersion, in hundredths of a degree: a ship has it under either rule, and the
-// case says which rule reads it.
+// The rule that judges the ship, each with its edge, as document 01 has it: the angle of deck-edge immersion, in hundredths of a degree.
 #[derive(Clone, Copy)]
 pub enum Rule {
     New(u16),
@@ -174,8 +173,8 @@ pub enum Weighing {
     Unweigh,
 }
 
-// What unused places hold: by these names and not by `Default`, whose derive gives no case that has fields, as a cell's; and the names say that
-// nothing is held there.
+// What unused places hold. Not by `Default`: a cell's would be written by hand as here, since it has no case without fields, and `no_hold()` says what
+// `Hold::default()` would not, that nothing is held there.
 fn no_cell() -> Cell
     ensures { result ≡ no_cell }
 {

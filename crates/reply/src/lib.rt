@@ -16,8 +16,8 @@ fn put(out: &mut [u8], w: &[u8]) -> usize
     w.len()
 }
 
-// The decimal digits of n, of which there are at most k, over the front of a buffer. Not by `write!`, of which only a String's bytes can be proved, and that
-// takes heap.
+// The decimal digits of n, of which there are at most k, over the front of a buffer. Not by `write!`: into a `&mut [u8]` its contract names no byte, and the
+// library's writers of which it names them take heap.
 #[tactic(auto, using(crate::proofs::Writing::over_none, crate::proofs::Writing::digits_none, crate::proofs::Writing::digits_one, crate::proofs::Writing::digits_more, crate::proofs::Writing::length_more, crate::proofs::Writing::over_one, crate::proofs::Writing::over_snoc))]
 fn put_digits(out: &mut [u8], n: u64, k: usize) -> usize
     requires { length (digits k n) ≤ length out.old }
@@ -90,7 +90,7 @@ fn append_figure(out: &mut [u8], at: usize, z: i64) -> usize
     }
 }
 
-// A head, a code, the closing bracket and a newline.
+// A head, a code, the closing bracket and a newline. A code is the number that the paper has printed, here and below.
 fn coded(out: &mut [u8], head: &[u8], code: u8) -> usize
     requires { length head.now + 4 ≤ length out.old }
     ensures value { result ≡ length (coded_reply head.now code) }
@@ -110,7 +110,7 @@ pub fn answer(out: &mut [u8], code: u8) -> usize
     coded(out, b"(answer ", code)
 }
 
-// `(verdict CC)`, the reply of another name, with the same code behind it.
+// `(verdict CC)`: two replies of the paper by two names, one line each.
 pub fn refusal(out: &mut [u8], code: u8) -> usize
     requires { 96 ≤ length out.old }
     ensures value { result ≡ length (refusal_reply code) }
@@ -141,7 +141,7 @@ fn append_count(out: &mut [u8], at: usize, n: u64) -> usize
     append_decimal(out, a, n)
 }
 
-// `(verdict CC GM DIFF UPPER AREA)`.
+// `(verdict CC GM DIFF UPPER AREA)`, figure by figure: `stability::Verdict` stands above the arithmetic, of which replies know nothing.
 #[tactic(auto, unfolding(crate::specs::Replies::verdict_reply), using(crate::proofs::Writing::over_part, crate::proofs::Writing::read_short, crate::proofs::Writing::short_four, crate::proofs::Writing::length_digits))]
 pub fn verdict(out: &mut [u8], code: u8, gm: i64, diff: i64, upper: u64, area: u64) -> usize
     requires { (96 ≤ length out.old) × (upper ≤ 4000) }

@@ -12,7 +12,7 @@ use forms::{FormWord, Request};
 use record::{Weighing, WeightItem};
 use text::Read;
 
-// A line but show by its word, apart from what stands behind it: one of document 01's forms, or one that no show takes.
+// A line but show by its word, apart from what stands behind it, as `forms::FormWord`: one of document 01's forms, or one that no show takes.
 #[derive(Clone, Copy, Debug, PartialEq, Eq)]
 pub enum LineWord {
     OfForm(FormWord),

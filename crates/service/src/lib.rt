@@ -11,7 +11,7 @@ use std::io::{ErrorKind, Read, Stdin, Stdout, Write};
 // How often a read or a write is made before it counts as one that fails.
 const TRIES: u32 = 1000000;
 
-// Writes all of a slice; an interrupted write is repeated. Whether all was written.
+// Writes all of a slice; an interrupted write is repeated. Whether all was written. Not by `write_all`, which counts no tries and so has no end of its own.
 fn write_out(output: &mut Stdout, bytes: &[u8]) -> bool {
     let mut left = bytes;
     for _ in 0..TRIES {

@@ -40,7 +40,8 @@ fn stretch_of(x: u64) -> usize
     (1..9).take_while(|k| arms::angle_at(*k) < x).count()
 }
 
-// DIFF at the angle x, rounded down.
+// DIFF at the angle x, rounded down. That no angle is above 4,000 is said where one comes from: a type of such angles would be opened again at each
+// sum and comparison.
 #[tactic(auto, unfolding(crate::specs::Verdict::diff_at), using(crate::proofs::Stretch::stretch_is, arms::proofs::Tens::angle_rises, arms::proofs::Tens::width_some, arms::proofs::Tens::width_le))]
 fn diff_at(ds: Diffs, x: u64) -> i64
     requires { x ≤ 4000 }
@@ -52,8 +53,8 @@ fn diff_at(ds: Diffs, x: u64) -> i64
     whole::line_at(width, x - from, ds.values[i], ds.values[i + 1])
 }
 
-// The least place at which DIFF is greatest. By a loop over the places: of several greatest `max_by_key` answers the last, and would have to
-// walk them backwards.
+// The least place at which DIFF is greatest. By a loop over the places: of several greatest `max_by_key` answers the last, so that it had to walk them
+// backwards, and to say what it gives of no places.
 fn peak_of(ds: Diffs) -> usize
     ensures { result ≡ peak ds.values }
 {

@@ -7,5 +7,5 @@ use Rattle.area.proofs.stretch_area.Goals as goal
 pub returns-then-to-upper-clause-value : goal.returns-then-to-upper-clause-value
 returns-then-to-upper-clause-value c =
     let e = stretch_whole c.args.ds.values c.args.upper c.args.k c.angle_at-from.ensures c.angle_at-to.ensures (omega arith) in
-    let f = c.full_area.ensures.value in
+    let f = c.part_area.ensures.value in
     search (rules, e)
