@@ -9,7 +9,7 @@ ghost use Rattle.items.specs.Reads.{is_end, found, passed_of, run_of, read_of, R
 
 use text::{Piece, Read};
 
-// An opening bracket.
+// An opening bracket. This and `close` are two, one case of a `match` each: one function of the piece would need an `==` of pieces.
 pub fn open(s: &[u8]) -> Option<&[u8]>
     ensures { open? (tokens s.now) ≡ passed_of result }
 {
@@ -56,7 +56,7 @@ pub fn number(s: &[u8]) -> Read<'_, u32>
     Some((v, rest))
 }
 
-// A number above 65,535 is carried as 65,535, which is above every limit too.
+// A number above 65,535 is carried as 65,535, which is above every limit too. `u16::try_from(v).unwrap_or(u16::MAX)` is as long and the same.
 fn as_field(v: u32) -> u16
     ensures { result ≡ carried v }
 {

@@ -167,7 +167,7 @@ pub fn reading_of(line: &[u8]) -> Result<(), Fault>
     all_sound(line)
 }
 
-// The paper's code for each fault.
+// The paper's code for each fault: a table by its name, and no `From`, since no `?` would apply it.
 pub fn fault_code(fault: Fault) -> u8
     ensures { result ≡ fault_code fault }
 {

@@ -3,3 +3,4 @@ pub mod Numbers
 pub mod Runs
 pub mod Parts
 pub mod Sorts
+pub mod Tails

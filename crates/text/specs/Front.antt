@@ -1,5 +1,5 @@
 -- The front of what is left of a line, as the reader takes it.
-use Rattle.std.specs.Prelude.{Bool, cond, not, ◌&&◌, ◌||◌, List, [], ◌∷◌, ℕ, eqb, leb, Option, Some, None}
+use Rattle.std.specs.Prelude.{◌≡◌, Bool, cond, not, ◌&&◌, ◌||◌, List, [], ◌∷◌, ℕ, ◌-◌, eqb, leb, length, drop, Option, Some, None}
 use Rattle.std.specs.Borrow.{Bor}
 use Rattle.std.specs.List.{prefix_len}
 use Rattle.whole.specs.Lists.{all}
@@ -34,3 +34,7 @@ led_by (Some (p, rest)) = said p ∷ tokens rest.now
 -- the tokens that a walk along a line has still before it
 abbrev pub left_of : Pieces → List Token
 left_of p = tokens p.0.now
+
+-- r is a tail of s: the last bytes of s, as many as r has
+abbrev pub TailOf : (r s : List ℕ) → Type 0
+TailOf r s = r ≡ drop (length s - length r) s

@@ -4,7 +4,7 @@
 ghost use Rattle.std.specs.Prelude.{◌≡◌, ◌||◌, ◌<◌, ◌≤◌, length, IfSome};
 ghost use Rattle.text.specs.Token.{is_digit, in_run, number_of, tokens, run_length};
 ghost use Rattle.std.specs.Iterator.{YieldsFirstBy, item_count};
-ghost use Rattle.text.specs.Front.{starts_token, gap, digits_from, said, led_by, left_of};
+ghost use Rattle.text.specs.Front.{starts_token, gap, digits_from, said, led_by, left_of, TailOf};
 
 // The greatest number.
 const GREATEST_NUMBER: u64 = 999999999;
@@ -63,6 +63,7 @@ fn gap(s: &[u8]) -> usize
 pub fn first_piece<'a>(s: &'a [u8]) -> Read<'a, Piece<'a>>
     ensures read { tokens s.now ≡ led_by result }
     ensures shorter { IfSome result (λ r. length r.1.now < length s.now) }
+    ensures tail { IfSome result (λ r. TailOf r.1.now s.now) }
 {
     let (_, t) = s.split_at(gap(s));
     let (b, behind) = t.split_first()?;
@@ -100,7 +101,8 @@ pub fn pieces_of(s: &[u8]) -> Pieces<'_>
     Pieces(s)
 }
 
-// The number that digits say, a zero in front or not. No `parse::<u32>()`: it takes a `+` in front.
+// The number that digits say, a zero in front or not. No `parse::<u32>()`: it wants a `str`, takes a `+` in front, and knows another greatest
+// number: three tests more.
 fn digits_of(run: &[u8]) -> Option<u32>
     ensures { result ≡ digits_from 0 run.now }
 {

@@ -1,0 +1,25 @@
+-- What is left behind some bytes of a text is a tail of it.
+use mathlib.Core.Path.{◌≡◌, refl, ap, ◌∙◌}
+use mathlib.Core.List.{List, ◌∷◌}
+use Prim.Native.Nat.{ℕ, ◌+◌, ◌-◌, ◌≤◌}
+use native.Mathlib.Omega.{arith}
+use lib.ListN.{length, drop, length-drop}
+use lib.Seq.{drop-drop}
+use Rattle.text.specs.Front.{TailOf}
+
+drop_tail : (n : ℕ) (s : List ℕ) → n ≤ length s → TailOf (drop n s) s
+drop_tail n s p =
+    let k : n ≡ length s - length (drop n s) = rw (length-drop n s) (omega arith) in
+    ap (λ i. drop i s) k
+
+-- t is what is left of s behind k bytes
+module _ (s t : List ℕ) (k : ℕ) (fits : k ≤ length s) (there : t ≡ drop k s) where
+  -- and u what is left of t behind m more
+  pub left_tail : (m : ℕ) (u : List ℕ) → m ≤ length t → u ≡ drop m t → TailOf u s
+  left_tail m u p e =
+      let n : length t ≡ length s - k = ap length there ∙ length-drop k s in
+      let both : u ≡ drop (k + m) s = e ∙ ap (drop m) there ∙ drop-drop m k s in
+      rw both (drop_tail (k + m) s (omega arith))
+
+  pub behind_tail : (b : ℕ) (u : List ℕ) → t ≡ b ∷ u → TailOf u s
+  behind_tail b u front = left_tail 1 u (rw front (omega arith)) (rw front refl)
