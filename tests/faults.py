@@ -150,23 +150,18 @@ old: (cond (leb 20 (length ks)) (Err Full)
 new: (cond (leb 0 (length ks)) (Err Full)
 file: crates/columns/src/lib.rt
 old:     if cs.places.len() <= held.len() {
-new:     if 0 <= held.len() {
-file: crates/columns/proofs/column_answer/Answers.antt
-old: pub returns-then-held-ge20 : goal.returns-then-held-ge20
-new: pub returns-then-held-ge0 : goal.returns-then-held-ge0
-old: returns-then-held-ge20 c =
-new: returns-then-held-ge0 c =
-old: c.if-held-ge20.true
-new: c.if-held-ge0.true
+new:     if cs.places.len() <= held.len() + 20 {
 file: crates/columns/proofs/Adding.antt
+old: suc, ◌-◌, ◌≤◌, ◌<◌}
+new: suc, ◌+◌, ◌-◌, ◌≤◌, ◌<◌}
 old: answer_full : 20 ≤ length ks
-new: answer_full : 0 ≤ length ks
+new: answer_full : 20 ≤ length ks + 20
 old: le-leb 20 (length ks) h
-new: le-leb 0 (length ks) h
+new: le-leb 0 (length ks) (omega (arith, h))
 old: (b : Bool) → length ks < 20 →
-new: (b : Bool) → length ks < 0 →
+new: (b : Bool) → length ks + 20 < 20 →
 old: lt-leb 20 (length ks) h
-new: lt-leb 0 (length ks) h
+new: lt-leb 0 (length ks) (omega (arith, h))
 """
 
 # ---- behind an edit: what the laws below a claim repeat of the definition, so that the claim itself is what refuses
