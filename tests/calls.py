@@ -193,9 +193,9 @@ def cycle_names(crate):
 
 
 def other_cycles(graph, crates):
-    """Which functions of these crates are in a cycle and have no such proof, or have one and are in none. Those that may call
-    themselves (`whole::root_of`, `whole::divide_product`, `reply::put_digits`) are in crates that do not use the reader:
-    that they are found here shows that such a call is seen in what the compiler made."""
+    """Which functions of these crates are in a cycle and have no such proof, or have one and are in none. The one that
+    calls itself (`reply::put_digits`) is in a crate that does not use the reader: that it is found here shows that such a
+    call is seen in what the compiler made."""
     called = [function for function in graph if crate_of(function) in crates and way_back(graph, function)]
     found = {f"{crate_of(function)}::{last_name(function)}" for function in called}
     proved = set()

@@ -59,12 +59,8 @@ new: kg = nth v 1; fs = nth v 0
 
 NEW_AND_OLD = """
 file: crates/forms/src/lib.rt
-old: word == b"new"
-new: word == b"other"
-old: word == b"old"
-new: word == b"new"
-old: word == b"other"
-new: word == b"old"
+old: (b"new", RuleWord::NewWord), (b"old", RuleWord::OldWord)
+new: (b"old", RuleWord::NewWord), (b"new", RuleWord::OldWord)
 file: crates/forms/specs/Shape.antt
 old: ("new", Some NewWord) ∷ ("old", Some OldWord)
 new: ("old", Some NewWord) ∷ ("new", Some OldWord)
@@ -153,24 +149,19 @@ file: crates/columns/specs/Columns.antt
 old: (cond (leb 20 (length ks)) (Err Full)
 new: (cond (leb 0 (length ks)) (Err Full)
 file: crates/columns/src/lib.rt
-old:     if 20 <= n {
-new:     if 0 <= n {
-file: crates/columns/proofs/column_answer/Answers.antt
-old: pub returns-then-n-ge20 : goal.returns-then-n-ge20
-new: pub returns-then-n-ge0 : goal.returns-then-n-ge0
-old: returns-then-n-ge20 c =
-new: returns-then-n-ge0 c =
-old: let few : length (held a.cs) < 20 =
-new: let few : length (held a.cs) < 0 =
+old:     if cs.places.len() <= held.len() {
+new:     if cs.places.len() <= held.len() + 20 {
 file: crates/columns/proofs/Adding.antt
+old: suc, ◌-◌, ◌≤◌, ◌<◌}
+new: suc, ◌+◌, ◌-◌, ◌≤◌, ◌<◌}
 old: answer_full : 20 ≤ length ks
-new: answer_full : 0 ≤ length ks
+new: answer_full : 20 ≤ length ks + 20
 old: le-leb 20 (length ks) h
-new: le-leb 0 (length ks) h
+new: le-leb 0 (length ks) (omega (arith, h))
 old: (b : Bool) → length ks < 20 →
-new: (b : Bool) → length ks < 0 →
+new: (b : Bool) → length ks + 20 < 20 →
 old: lt-leb 20 (length ks) h
-new: lt-leb 0 (length ks) h
+new: lt-leb 0 (length ks) (omega (arith, h))
 """
 
 # ---- behind an edit: what the laws below a claim repeat of the definition, so that the claim itself is what refuses
@@ -280,7 +271,7 @@ def edit(crate, name, laws=""):
 
 REPLACED_STAYS_IN = """
 file: crates/storing/src/lib.rt
-old:     c.total = total::exchange(c.total, c.holds[place], moment);
+old:     c.total = total::exchange(c.total, &c.holds[place], moment);
 new:     c.total = total::exchange(c.total, h, moment);
 file: crates/storing/specs/Storing.antt
 old:       total = exchanged c.total (hold_at c n) w;
@@ -289,8 +280,8 @@ new:       total = exchanged c.total h w;
 
 DROP_PUTS_ON = """
 file: crates/effects/src/lib.rt
-old:         Request::DropLine(n) => storing::store_hold(c, n, record::no_hold(), 0),
-new:         Request::DropLine(n) => storing::store_hold(c, n, record::no_hold(), c.total),
+old:         Request::DropLine(n) => storing::store_hold(c, *n, &record::no_hold(), 0),
+new:         Request::DropLine(n) => { let figure = c.total; storing::store_hold(c, *n, &record::no_hold(), figure) }
 file: crates/effects/specs/Effect.antt
 old: (with_hold c n no_hold 0)
 new: (with_hold c n no_hold c.total)
@@ -317,10 +308,10 @@ def clear_keeps(field):
 file: crates/effects/src/lib.rt
 old: ghost use Rattle.effects.specs.Effect.{{effect_of}};
 new: ghost use Rattle.effects.specs.Effect.{{effect_of, cleared_of}};
-old: #[tactic(auto, unfolding(crate::specs::Effect::effect_of))]
-new: fn cleared(c: Condition) -> Condition ensures {{ result ≡ cleared_of c }} {{ let kept = c.{field}; let mut e = condition::empty_condition(); e.{field} = kept; e }} #[tactic(auto, unfolding(crate::specs::Effect::effect_of))]
-old:         Request::ClearLine => *c = condition::empty_condition(),
-new:         Request::ClearLine => *c = cleared(*c),
+old: ensures {{ c.new ≡ empty }}
+new: ensures {{ c.new ≡ cleared_of c.old }}
+old:     *c = condition::empty_condition();
+new:     let kept = c.{field}; *c = condition::empty_condition(); c.{field} = kept;
 file: crates/effects/specs/Effect.antt
 old: -- what a request puts into the condition, w being the moment of its hold. It is taken only where the request is answered with 00; elsewhere its value is free,
 new: abbrev pub cleared_of : Condition → Condition
@@ -338,10 +329,8 @@ new: outcome_of c ts n ClearLine = answered (taken (cleared_of c))
 
 KG_OF_ZERO = """
 file: crates/weights/src/lib.rt
-old: using(crate::proofs::Weights::kg_none, crate
-new: using(crate
-old:     if n == 0 || d == 0 {
-new:     if d == 0 {
+old: kg.max(1).min(GREATEST_KG)
+new: kg.min(GREATEST_KG)
 file: crates/weights/specs/Weights.antt
 old: {Bool, ℕ, ◌+◌, ◌*◌, min, max, leb}
 new: {Bool, ℕ, ◌+◌, ◌-◌, ◌*◌, min, max, leb}
