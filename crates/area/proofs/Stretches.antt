@@ -2,15 +2,15 @@
 use mathlib.Core.Path.{◌≡◌, refl, sym, ap, ap₂, ◌∙◌}
 use Prim.Native.Nat.{ℕ, suc, ◌+◌, ◌*◌, ◌-◌, ◌/◌, ◌^◌, ◌≤◌, ◌<◌}
 use native.Mathlib.Omega.{arith}
-use native.Mathlib.Nat.{mul-zero, zero-mul, zero-div, add-zero, mul-pos, mul-div-mul_right, mul-le-mul, mul-le-mul_left, div-le_of_le-mul}
+use native.Mathlib.Nat.{mul-zero, zero-mul, zero-div, add-zero, mul-div-mul_right, mul-le-mul, mul-le-mul_left, div-le_of_le-mul}
 use mathlib.Core.List.{List}
 use native.Mathlib.Numerals.{add-one}
 use lib.ListN.{get_or}
-use lib.IntN.{ℤ, pos, negsuc}
+use lib.IntN.{ℤ, pos}
 use Rattle.std.specs.List.{sum_by, range_with_len}
 use Rattle.sign.specs.Sign.{plus, minus}
 use Rattle.whole.specs.Line.{on_line}
-use Rattle.whole.proofs.Lines.{line_end_lem, line_le}
+use Rattle.whole.proofs.Lines.{line_le}
 use Rattle.arms.specs.Angles.{angle, width}
 use Rattle.arms.proofs.Tens.{width_some, width_le}
 use Rattle.area.specs.Area.{area_above, ends_above, counted, stretch_area, area_over, area}
@@ -36,39 +36,6 @@ end_bounds ds k b h = record { above = b.above k h; below = b.below k h }
 
 pub both_bounds : (ds : List ℤ) (k : ℕ) → Bounded ds → k < 9 → EndBounds (get_or ds k (pos 0)) × EndBounds (get_or ds (k + 1) (pos 0))
 both_bounds ds k b h = (end_bounds ds k b (omega arith), end_bounds ds (k + 1) b (omega arith))
-
--- ---- a whole stretch
-own_plus : (h : ℕ) (z : ℤ) → h * plus z - h * minus z ≡ h * plus z
-own_plus h (pos n) = omega (arith, mul-zero h)
-own_plus h (negsuc n) = omega (arith, mul-zero h)
-
-own_minus : (h : ℕ) (z : ℤ) → h * minus z - h * plus z ≡ h * minus z
-own_minus h (pos n) = omega (arith, mul-zero h)
-own_minus h (negsuc n) = omega (arith, mul-zero h)
-
-whole_plus : (h : ℕ) (d e : ℤ) → ends_above h h (plus d) (minus d) (plus e) (minus e) ≡ h * (plus d + plus e)
-whole_plus h d e =
-    rw (line_end_lem h (plus d) (plus e), line_end_lem h (minus d) (minus e)) (omega (arith, own_plus h d, own_plus h e))
-
-whole_minus : (h : ℕ) (d e : ℤ) → ends_above h h (minus d) (plus d) (minus e) (plus e) ≡ h * (minus d + minus e)
-whole_minus h d e =
-    rw (line_end_lem h (minus d) (minus e), line_end_lem h (plus d) (plus e)) (omega (arith, own_minus h d, own_minus h e))
-
-scaled : (h u n : ℕ) → 0 < h → h * u * u / (2 * (u + n)) ≡ area_above h h (h * u) (h * n)
-scaled h u n p =
-    let a : h * (h * u) * (h * u) ≡ h * u * u * (h * h) = omega arith in
-    let b : 2 * h * (h * u + h * n) ≡ 2 * (u + n) * (h * h) = omega arith in
-    sym (ap₂ ◌/◌ a b ∙ mul-div-mul_right (h * u * u) (2 * (u + n)) (mul-pos p p))
-
-pub whole_is : (h : ℕ) (d e : ℤ) → 0 < h → h * (plus d + plus e) * (plus d + plus e) / (2 * (plus d + plus e + (minus d + minus e))) ≡ part_area h h d e
-whole_is h d e p =
-    scaled h (plus d + plus e) (minus d + minus e) p ∙ sym (ap₂ (area_above h h) (whole_plus h d e) (whole_minus h d e))
-
-pub whole_none : (h : ℕ) (d e : ℤ) → 0 < h → plus d + plus e ≡ 0 → 0 ≡ part_area h h d e
-whole_none h d e p z = sym (sym (whole_is h d e p) ∙ rw (z, mul-zero, zero-div) refl)
-
-pub whole_small : (h u : ℕ) → h ≤ 500 → u ≤ 2 ^ 27 → h * u * u ≤ 500 * 2 ^ 27 * 2 ^ 27
-whole_small h u p q = mul-le-mul (mul-le-mul p q) q
 
 -- ---- how much of a stretch counts
 module _ (u k : ℕ) where

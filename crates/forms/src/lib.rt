@@ -124,7 +124,7 @@ fn column(s: &[u8]) -> Read<'_, Request>
 
 // ---- a hold
 
-// `SF PART ..)`
+// `SF PART ..)`. `as` keeps a count of at most six: of `try_from` the error that cannot be would have to be answered, as of cells.
 fn parts(n: u32, mode: Mode, s: &[u8]) -> Read<'_, Request>
     ensures { carry carried_request (parts? n mode (tokens s.now)) ≡ read_of result }
 {

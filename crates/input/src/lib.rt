@@ -27,7 +27,7 @@ fn bytes_before(s: &[u8]) -> usize
     s.iter().take_while(|b| **b != b'\n').count()
 }
 
-// The place of the next byte 10 from `at` on, or the block's end.
+// The place of the next byte 10 from `at` on, or the block's end. Of a place and no slice that is left: `lines` says why.
 #[tactic(auto, using(crate::proofs::Cutting::before_newline))]
 pub fn line_end(block: &[u8], at: usize) -> usize
     requires { at ≤ length block.now }

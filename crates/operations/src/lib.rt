@@ -74,7 +74,7 @@ pub fn answer_code(a: Result<(), Refusal>) -> u8
     }
 }
 
-// A test that refuses.
+// A test that refuses: one line, for which a crate below this one and `line_codes` would have to be made to hold it for both.
 fn tested(passed: bool, why: Refusal) -> Result<(), Refusal>
     ensures { result ≡ tested why passed }
 {

@@ -10,7 +10,7 @@ ghost use Rattle.spelling.specs.Walk.{piece};
 
 use text::Piece;
 
-// A space where it is asked for, and a text, behind the `at` bytes that are written already.
+// A space where it is asked for, and a text, behind the `at` bytes that are written already (see `reply::append`).
 fn add(out: &mut [u8], at: usize, apart: bool, w: &[u8]) -> usize
     requires { at + length (space_if apart ++ w.now) ≤ length out.old }
     ensures value { result ≡ at + length (space_if apart ++ w.now) }

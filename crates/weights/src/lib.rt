@@ -43,7 +43,8 @@ pub fn makes_load(s: ItemSums) -> bool
     LEAST_SUM <= s.tonnes
 }
 
-// KG of the items: the summed products divided by the sum of tonnes, rounded up, with 1 for 0.
+// KG of the items: the summed products divided by the sum of tonnes, rounded up, with 1 for 0. In the words of its definition: `clamp` takes the least last, and
+// `as` keeps what is no greater than 65,535.
 #[tactic(auto, unfolding(crate::specs::Weights::weighed_kg), using(crate::proofs::Weights::kg_undivided, whole::proofs::Dividing::div_ceil_is))]
 fn weighed_kg(s: ItemSums) -> u16
     ensures { result ≡ weighed_kg s }
