@@ -18,7 +18,7 @@ returns c =
     let d = length-drop n l in
     let m = length-take-le (length l - n) (drop n l) (omega arith) in
     let r : 2100 ≤ length part = omega (arith, pre) in
-    let e = c.take-r.ensures in
+    let e = c.take-r.ensures.steps in
     let a = any_room args.c.now (length part) r args.line.now in
     let w = over_fits _ part _ e.written c.take-r.auto.out in
     rw (← a)
