@@ -293,11 +293,18 @@ class Function:
                 raise TypeError
             named.add((name, *self._hand({name}, at["dicts"])))
         for name, _, inside in standing(self.body, "Impl"):
-            named |= {(method, None, False) for method in self.methods[name]}
+            named |= {(method, None, False) for method in self.methods[name] - self._provided()}
             self._hand(self.methods[name], inside)
         for of, _, at in standing(self.body, "Method"):
             self._hand(self.methods[of["Impl"][0]] if "Impl" in of else None, at["dicts"])
         return named
+
+    def _provided(self):
+        """This function, where all that it does is to call the toolchain's method of its own name: one that a trait provides, which an `impl` without
+        one of its own has so. That method is handed the `impl`, and can call each of its methods but this one, as the toolchain proves that it ends."""
+        called = [call["Fn"][0] if "Fn" in call else "" for call, *_ in standing(self.body, "Call")]
+        alone = len(called) == 1 and called[0].startswith("core::") and last_name(called[0]) == last_name(self.name)
+        return {self.name} if alone else set()
 
     def calls(self, handed):
         """The functions that it can call where these are handed to it, each with what it hands to that one (None: what any does)."""
@@ -483,6 +490,16 @@ HANDED = [
      [made_of("a::by", CALL_GIVEN), made_of("b::f", call("a::by", handing(impl_of("b::g"))), table_of("b::g")),
       made_of("b::g", call("a::by", handing(impl_of("b::h"))), table_of("b::h")), made_of("b::h", [])],
      []),
+    ("one that a trait of the toolchain provides, by that very one",
+     [made_of("a::m", call("core::t::m", handing(impl_of("a::m"))), table_of("a::m"))],
+     []),
+    ("one that a trait of the toolchain provides, beside one that calls it",
+     [made_of("a::m", call("core::t::m", handing(impl_of("a::m"))), [{"name": "a::m at a call", "methods": ["a::m", "b::next"]}]),
+      called("b::next", ["a::m"])],
+     ["a", "b"]),
+    ("one that a trait of the toolchain provides, by another",
+     [made_of("a::m", call("core::t::other", handing(impl_of("a::m"))), table_of("a::m"))],
+     ["a"]),
     ("one that calls back with itself in hand, behind another",
      [made_of("a::by", CALL_GIVEN), made_of("b::f", call("a::by", handing(impl_of("b::g"))), table_of("b::g")),
       made_of("b::g", call("a::by", handing(impl_of("b::h"))), table_of("b::h")),
