@@ -37,6 +37,7 @@ fn cell_named(word: &[u8]) -> Option<CellWord>
 }
 
 // A cell, by its word.
+#[tactic(auto, using(crate::proofs::Records::cell_read))]
 fn cell(s: &[u8]) -> Read<'_, Cell>
     ensures { carry carried_cell (cell? (tokens s.now)) ≡ read_of result }
 {
