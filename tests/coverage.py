@@ -1,11 +1,12 @@
 """Whether the gate's lines reach every code, the figures next to the limits, each thing that show can do, each way in
-which void and grain of a partly filled part lie, each change of the holds behind which a total can stand, and what
-weighings.py seeks of the items, by the reference's replies."""
+which void and grain of a partly filled part lie, each change of the holds behind which a total can stand, what splits.py
+seeks of splits and weighings.py of the items, by the reference's replies."""
 
 import math
 import re
 from collections import Counter
 
+import splits
 import support
 import weighings
 from lines import code_of, depth, first_word, is_shown, word_and_number
@@ -114,17 +115,18 @@ def check_codes(results):
         for seed in support.GATE_SEEDS:
             data = support.generated(kind, seed, support.GATE_COUNT)
             byte_values.update(data)
-            before, holds, items = None, Holds(kind), weighings.Items(kind)
+            before, holds, boards, items = None, Holds(kind), splits.Splits(kind), weighings.Items(kind)
             for line, reply in zip(split_lines(data), run_program(reference, data).replies()):
                 found.update(names_of(line, reply))
                 found.update(names_of_decks(kind, line, reply))
                 found.update(holds.names_of_total(line, reply))
+                found.update(boards.names_of(line, reply))
                 found.update(items.names_of(line, reply))
                 if line == before:
                     found[f"reply sent as the next line, with code {code_of(reply)}"] += 1
                 before = reply
                 longest = max(longest, len(reply))
-    for name in SOUGHT + SOUGHT_OF_SHOW + SOUGHT_OF_DECKS + SOUGHT_OF_TOTALS + weighings.SOUGHT:
+    for name in SOUGHT + SOUGHT_OF_SHOW + SOUGHT_OF_DECKS + SOUGHT_OF_TOTALS + splits.SOUGHT + weighings.SOUGHT:
         results.report(f"reached {name} ({found[name]} times)", None if found[name] else "never")
     missing = sorted(set(range(256)) - byte_values)
     results.report("reached every byte value", f"not {missing}" if missing else None)

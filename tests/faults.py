@@ -35,11 +35,81 @@ new:         void: grain,
 old:         grain,
 new:         grain: void,
 file: crates/parts/specs/Shape.antt
-old: void = nth v 2; grain = nth v 3
-new: void = nth v 3; grain = nth v 2
-file: crates/parts/proofs/Records.antt
-old: void = carried (nth v 2); grain = carried (nth v 3)
-new: void = carried (nth v 3); grain = carried (nth v 2)
+old: Undivided (nth v 1) (nth v 2) (nth v 3)
+new: Undivided (nth v 1) (nth v 3) (nth v 2)
+"""
+
+LEFT_AND_RUN = """
+file: crates/parts/src/lib.rt
+old: Slack::Split { run, left, right }
+new: Slack::Split { run: left, left: run, right }
+file: crates/parts/specs/Shape.antt
+old: Split (nth v 1) (nth v 2) (nth v 3)
+new: Split (nth v 2) (nth v 1) (nth v 3)
+"""
+
+LEFT_AND_RIGHT = """
+file: crates/parts/src/lib.rt
+old: Slack::Split { run, left, right }
+new: Slack::Split { run, left: right, right: left }
+file: crates/parts/specs/Shape.antt
+old: Split (nth v 1) (nth v 2) (nth v 3)
+new: Split (nth v 1) (nth v 3) (nth v 2)
+"""
+
+SPLIT_AMONG_CELLS = """
+file: crates/parts/src/lib.rt
+old: (Mode::Trimmed | Mode::Voided, PartWord::SplitWord) => None
+new: (Mode::Trimmed | Mode::Voided, PartWord::SplitWord) => section(s)
+file: crates/parts/specs/Shape.antt
+old: body? Trimmed SplitWord ts = none
+new: body? Trimmed SplitWord ts = section? ts
+old: body? Voided SplitWord ts = none
+new: body? Voided SplitWord ts = section? ts
+file: crates/parts/proofs/Tidy.antt
+old: body_yields Trimmed SplitWord ts = nothing
+new: body_yields Trimmed SplitWord ts = section_yields trimmed ts
+old: body_yields Voided SplitWord ts = nothing
+new: body_yields Voided SplitWord ts = section_yields voided ts
+file: crates/showing/proofs/Framing.antt
+old: body_frames Trimmed SplitWord = frames_none
+new: body_frames Trimmed SplitWord = section_frames
+old: body_frames Voided SplitWord = frames_none
+new: body_frames Voided SplitWord = section_frames
+file: crates/showing/proofs/Shapes.antt
+old: body_leaves d k Trimmed SplitWord ts h p = nothing
+new: body_leaves d k Trimmed SplitWord ts h p = section_leaves d k ts h p
+old: body_leaves d k Voided SplitWord ts h p = nothing
+new: body_leaves d k Voided SplitWord ts h p = section_leaves d k ts h p
+"""
+
+ANOTHER_WORD_FOR_SPLIT = """
+file: crates/parts/src/lib.rt
+old: const PARTS: [(&[u8], PartWord); 2] = [
+new: const PARTS: [(&[u8], PartWord); 3] = [
+old:     (b"split", PartWord::SplitWord),
+new:     (b"split", PartWord::SplitWord), (b"board", PartWord::SplitWord),
+file: crates/parts/specs/Shape.antt
+old: ("split", Some SplitWord) ∷ []) None r
+new: ("split", Some SplitWord) ∷ ("board", Some SplitWord) ∷ []) None r
+"""
+
+SPLIT_NOT_OF_PARTIAL = """
+file: crates/parts/src/lib.rt
+old: (Mode::Partial, PartWord::SplitWord) => split(s)
+new: (Mode::Partial, PartWord::SplitWord) => None
+file: crates/parts/specs/Shape.antt
+old: body? Partial SplitWord ts = split? ts
+new: body? Partial SplitWord ts = none
+file: crates/parts/proofs/Tidy.antt
+old: body_yields Partial SplitWord ts = yields_then (last_numbers? 4 ts) (λ v us. yields (partial _ _))
+new: body_yields Partial SplitWord ts = nothing
+file: crates/showing/proofs/Framing.antt
+old: body_frames Partial SplitWord = split_frames
+new: body_frames Partial SplitWord = frames_none
+file: crates/showing/proofs/Shapes.antt
+old: body_leaves d k Partial SplitWord ts h p = split_leaves d k ts p
+new: body_leaves d k Partial SplitWord ts h p = nothing
 """
 
 KG_AND_FS = """
@@ -263,6 +333,14 @@ old: cases false false true t₄
 new: cases false t₂ true t₄
 """
 
+REST_IN_LAWS = """
+file: proofs/Fits.antt
+old: s * e + w * (n - e) ≤ 150000000000000000
+new: s * e + w * (e - e) ≤ 150000000000000000
+old: let t : n - e ≤ 60000 - e = omega arith in omega (arith, mul-le-mul_right e h, mul-le-mul_right (n - e) k)
+new: omega (arith, mul-le-mul_right e h, mul-le-mul_right (e - e) k)
+"""
+
 
 def edit(crate, name, laws=""):
     """A must-fail edit of a crate, and what its laws repeat."""
@@ -370,6 +448,11 @@ FAULTS = {
     "flood_9999": Fault("FLOOD up to 9,999", [edit("limits", "theorem_flood_9999", FLOOD_IN_LAWS)]),
     "dist_and_girder": Fault("DIST and GIRDER of a wing exchanged when read", [("", DIST_AND_GIRDER)]),
     "void_and_grain": Fault("VOID and GRAIN of a partly filled part exchanged when read", [("", VOID_AND_GRAIN)]),
+    "left_and_run": Fault("RUN and LEFT of a split exchanged when read", [("", LEFT_AND_RUN)]),
+    "left_and_right": Fault("LEFT and RIGHT of a split exchanged when read", [("", LEFT_AND_RIGHT)]),
+    "split_among_cells": Fault("a split is taken as a part of cells in a trimmed or voided hold", [("", SPLIT_AMONG_CELLS)]),
+    "another_word_for_split": Fault("`board` is taken for `split`", [("", ANOTHER_WORD_FOR_SPLIT)]),
+    "split_not_of_partial": Fault("a split is taken in no hold", [("", SPLIT_NOT_OF_PARTIAL)]),
     "kg_and_fs": Fault("KG and FS of a load exchanged when read", [("", KG_AND_FS)]),
     "new_and_old": Fault("the words `new` and `old` exchanged", [("", NEW_AND_OLD)]),
     "ship_forgets_load": Fault("a new ship forgets the load", [edit("storing", "theorem_ship_forgets_load")]),
@@ -391,6 +474,8 @@ FAULTS = {
     "slack_moment_down": Fault("the moment of a triangle of void or grain rounded down", [edit("slack", "theorem_moment_rounded_down")]),
     "no_second_term": Fault("a line from deck to floor without h³/(24 s²)", [edit("slack", "theorem_no_second_term")]),
     "slope_not_squared": Fault("a line from deck to floor with h³/(24 s)", [edit("slack", "theorem_slope_not_squared")]),
+    "lesser_breadth": Fault("two-sevenths of the lesser breadth taken off a board", [edit("boards", "theorem_of_the_lesser_breadth")]),
+    "rest_left_out": Fault("a split without the rest of LENGTH", [edit("boards", "theorem_rest_left_out", REST_IN_LAWS)]),
     "replaced_stays_in": Fault("the moment of a replaced or dropped hold stays in the figure, that of the new one is taken off", [("", REPLACED_STAYS_IN)]),
     "new_moment_not_put_on": Fault("the moment of a new hold is not put on", [edit("total", "theorem_new_moment_not_put_on")]),
     "drop_puts_on": Fault("a drop puts the figure on once more", [("", DROP_PUTS_ON)]),

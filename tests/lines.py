@@ -5,6 +5,10 @@ import re
 # The first word of the outer form, and the number behind it.
 FORM = re.compile(rb" *\( *([a-z]+)(?![a-z0-9])(?: +(\d{1,9})(?!\d))?")
 NUMBER = re.compile(rb"\d+")
+# A part of a partial hold, of either sort; and such a hold, also where it is shown.
+PARTIAL_PART = rb"\( *(?:part|split)(?: +\d+){4} *\)"
+PARTIAL_HOLD = re.compile(rb" *(?:\( *show *)?\( *hold +(\d+) +partial +(\d+) *((?:" + PARTIAL_PART + rb" *){1,6})\)")
+WORD_AND_NUMBERS = re.compile(rb"(part|split) +(\d+) +(\d+) +(\d+) +(\d+)")
 
 
 def is_shown(reply):
@@ -30,6 +34,15 @@ def word_and_number(line):
 def numbers(line):
     """All numbers of a line that has none but sound ones."""
     return [int(number) for number in NUMBER.findall(line)]
+
+
+def partial_hold(line):
+    """Number, stowage factor and parts of a partial hold, each part with its word and four numbers; None of another line."""
+    hold = PARTIAL_HOLD.match(line)
+    if not hold:
+        return None
+    parts = [(word.decode(), *(int(number) for number in figures)) for word, *figures in WORD_AND_NUMBERS.findall(hold[3])]
+    return int(hold[1]), int(hold[2]), parts
 
 
 def depth(line):

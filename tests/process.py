@@ -140,6 +140,40 @@ def totals():
     return data, b"".join(b"(answer %02d)\n" % code + b"(answer 00 %d)\n" % total * 2 for _, code, total in turns)
 
 
+def splits():
+    """A total behind each hold with splits: a board with and without effect and as long as the part, beside parts, six of
+    the heaviest, and what is turned down."""
+    split, uncut = b"(hold 1 partial 12500 (split 20000 %d 6000 6000))", 1_203_304
+    turns = [
+        (split % 10_000, 0, 829_453),
+        (b"(hold 2 partial 12500 (part 20000 12000 600 6000))", 0, 829_453 + 535_149),
+        (b"(hold 3 partial 12500 (part 20000 12000 30000 30000))", 0, 829_453 + 535_149 + uncut),
+        (b"(drop 2)", 0, 829_453 + uncut),
+        (b"(drop 3)", 0, 829_453),
+        *[(split % run, 0, uncut) for run in (1, 1_714, 1_715)],
+        (split % 1_716, 0, 1_203_260),
+        (split % 20_000, 0, 378_215),
+        *[(split % run, 20, 378_215) for run in (0, 20_001, 65_536 + 10_000, 999_999_999)],
+        (b"(hold 1 partial 12500 (split 60001 10000 6000 6000))", 20, 378_215),
+        (b"(hold 1 partial 12500 (split 20000 10000 0 6000))", 20, 378_215),
+        (b"(hold 1 partial 12500 (split 20000 10000 6000 34001))", 20, 378_215),
+        (b"(hold 1 partial 12500 (split 20000 10000 65535 1))", 20, 378_215),
+        (b"(hold 1 partial 12500 (split 20000 10000 40000 25537))", 20, 378_215),
+        *[(split.replace(b"partial", mode) % 10_000, 14, 378_215) for mode in (b"trimmed", b"voided")],
+        (b"(hold 1 partial 12500 (split 20000 10000 6000))", 14, 378_215),
+        (b"(hold 1 partial 12500 (split 20000 10000 6000 6000 6000))", 14, 378_215),
+        (b"(hold 1 partial 12500 %s)" % (7 * b"(split 1 1 1 1)"), 14, 378_215),
+        (b"(split 20000 10000 6000 6000)", 14, 378_215),
+        (b"(show (split 20000 10000 6000 6000))", 14, 378_215),
+        (b"(hold 1 partial 12500 (part 20000 12000 600 6000) (split 20000 10000 6000 6000))", 0, 1_364_602),
+        (b"(hold 1 partial 5000 %s)" % (6 * b"(split 60000 1 1 39999)"), 0, 2_005_506_062),
+        (b"(hold 1 partial 40000 %s)" % (6 * b"(split 1 1 1 1)"), 0, 2),
+        (b"(clear)", 0, 0),
+    ]
+    data = b"".join(line + b"\n(total)\n" for line, _, _ in turns)
+    return data, b"".join(b"(answer %02d)\n(answer 00 %d)\n" % (code, total) for _, code, total in turns)
+
+
 # Columns between which GM tells D and DIFF tells KG: KM is 1 mm for each tonne up to 50,000 t, and falls by 0.1 mm for each
 # beyond. With KN 0 throughout, UPPER and AREA are 0.
 WEIGHED_SHIP = b"(ship old 9000 9000)\n" + b"".join(
@@ -223,6 +257,7 @@ INPUTS = [
     ("the longest reply of show", *longest_show()),
     ("many of the longest replies of show", *longest_shows()),
     ("totals", *totals()),
+    ("splits", *splits()),
     ("weighings", *weighings()),
     ("many items", *many_items()),
     ("show lines between judges", b"(judge)\n(judge)\n(show(judge))\n" * 100_000,

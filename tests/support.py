@@ -13,7 +13,7 @@ CRATES = REPOSITORY / "crates"
 SERVICE = CRATES / "panel_service" / "out" / "panel_service"
 SMALL_SERVICE = CRATES / "small_service" / "out" / "small_service"
 # The right outputs of a panel with every request up to the newest that has landed.
-VECTORS = REPOSITORY.parent / "shared" / "vectors" / "p06"
+VECTORS = REPOSITORY.parent / "shared" / "vectors" / "p07"
 PAPER = REPOSITORY.parent / "shared" / "papers" / "01-scope.md"
 
 KINDS = ["runs", "edges", "damaged", "mixed", "shows"]

@@ -5,6 +5,7 @@ use crate::edge_weighings;
 use crate::edges;
 use crate::runs;
 use crate::spelling::{self, CLEAR, JUDGE, TOTAL, UNWEIGH};
+use crate::splits;
 use crate::wanted;
 use crate::weighings;
 
@@ -308,8 +309,8 @@ fn other_word(chance: &mut Chance, line: Vec<u8>) -> Vec<u8> {
     with_piece(chance, &line, is_word, |chance, pieces, place| {
         let words: &[&[u8]] = &[
             b"ship", b"column", b"load", b"hold", b"drop", b"judge", b"clear", b"new", b"old", b"trimmed", b"voided",
-            b"partial", b"part", b"wing", b"hatch", b"void", b"answer", b"verdict", b"show", b"total", b"weight",
-            b"weighed", b"unweigh",
+            b"partial", b"part", b"split", b"wing", b"hatch", b"void", b"answer", b"verdict", b"show", b"total",
+            b"weight", b"weighed", b"unweigh",
         ];
         pieces[place] = chance.pick(words).to_vec();
     })
@@ -339,6 +340,7 @@ fn item_between(chance: &mut Chance, line: Vec<u8>) -> Vec<u8> {
                 b"()",
                 b"(1)",
                 b"(part 1 1 1 1)",
+                b"(split 1 1 1 1)",
                 b"(void 1 1 1)",
                 b"((1))",
                 b"(judge)",
@@ -502,7 +504,7 @@ const FAULTY_LINES: [&[u8]; 42] = [
 
 /// Lines that are no form's spelling at all, and the smallest forms.
 fn faulty_from_the_start(chance: &mut Chance) -> Vec<u8> {
-    match chance.below(7) {
+    match chance.below(8) {
         0 => {
             let length = chance.below(40);
             (0..length).map(|_| any_byte(chance)).collect()
@@ -523,6 +525,7 @@ fn faulty_from_the_start(chance: &mut Chance) -> Vec<u8> {
             line
         }
         3 => weighings::turned_down(chance).into_bytes(),
+        4 => splits::turned_down(chance).into_bytes(),
         _ => chance.pick(&FAULTY_LINES).to_vec(),
     }
 }

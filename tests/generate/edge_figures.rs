@@ -8,7 +8,7 @@ use crate::wanted;
 
 /// Every field of every form: the form with `@` for the field, and the field's limits. The other figures are such
 /// that the record is taken when the field is within its limits.
-const FIELDS: [(&str, i128, i128); 31] = [
+const FIELDS: [(&str, i128, i128); 35] = [
     ("(ship new @ 3500)", 1, 9_000),
     ("(ship old @ 3500)", 1, 9_000),
     ("(ship new 1430 @)", 1, 9_000),
@@ -39,6 +39,10 @@ const FIELDS: [(&str, i128, i128); 31] = [
     ("(hold 2 partial 12500 (part 10 @ 3000 6000))", 1, 40_000),
     ("(hold 2 partial 12500 (part 10 5000 @ 6000))", 1, 30_000),
     ("(hold 2 partial 12500 (part 10 5000 3000 @))", 1, 30_000),
+    ("(hold 2 partial 12500 (split @ 1 3000 6000))", 1, 60_000),
+    ("(hold 2 partial 12500 (split 9000 @ 3000 6000))", 1, 9_000),
+    ("(hold 2 partial 12500 (split 9000 4000 @ 6000))", 1, 34_000),
+    ("(hold 2 partial 12500 (split 9000 4000 3000 @))", 1, 37_000),
     ("(drop @)", 1, 16),
 ];
 
@@ -63,9 +67,10 @@ pub fn counts(chance: &mut Chance) -> Vec<String> {
     let mut lines = wanted::condition_that_shows_weight().lines();
     let mode = chance.pick(&["trimmed", "voided", "partial"]);
     let cells = |count: usize| "(void 100 5 60)".repeat(count);
+    let slack = chance.pick(&["(part 300 900 1 1)", "(split 300 200 400 500)"]);
     let part = |count: usize| {
         if mode == "partial" {
-            "(part 300 900 1 1)".to_string()
+            slack.to_string()
         } else {
             format!("(part 300 {})", cells(count))
         }

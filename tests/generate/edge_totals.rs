@@ -124,11 +124,13 @@ pub fn totals_that_stay(chance: &mut Chance) -> Vec<String> {
             // 20 by the stowage factor, and by the last part.
             format!("(hold {n} partial {} (part 9000 12000 3000 6000))", chance.pick(&[0, 4_999, 40_001])),
             format!("(hold {n} partial 12500 (part 9000 12000 3000 6000) (part 0 12000 3000 6000))"),
+            format!("(hold {n} partial 12500 (split 9000 4000 3000 6000) (split 9000 9001 3000 6000))"),
             // 21 by the only part, and by the last.
             format!("(hold {n} trimmed 12500 (part 9000 (void 10000 500 1)))"),
             format!("(hold {n} voided 12500 (part 9000 (void 10000 500 5000)) (part 9000 (void 10000 500 1)))"),
             // 14 by the part of another mode.
             format!("(hold {n} trimmed 12500 (part 9000 (void 10000 500 5000)) (part 9000 12000 3000 6000))"),
+            format!("(hold {n} trimmed 12500 (part 9000 (void 10000 500 5000)) (split 9000 4000 3000 6000))"),
         ];
         for _ in 0..2 {
             lines.push(turned_down.swap_remove(chance.below(turned_down.len())));

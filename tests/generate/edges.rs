@@ -4,6 +4,7 @@ use crate::chance::Chance;
 use crate::edge_arms;
 use crate::edge_decks;
 use crate::edge_figures;
+use crate::edge_splits;
 use crate::edge_totals;
 use crate::edge_voids;
 use crate::edge_weighings;
@@ -15,7 +16,7 @@ use crate::weighings;
 type Family = fn(&mut Chance) -> Vec<String>;
 
 /// Single fields have a greater share, since there are many of them.
-const FAMILIES: [Family; 51] = [
+const FAMILIES: [Family; 60] = [
     edge_figures::field_limits,
     edge_figures::field_limits,
     edge_figures::field_limits,
@@ -47,6 +48,15 @@ const FAMILIES: [Family; 51] = [
     edge_decks::bases_at_whole_mm,
     edge_decks::moments_without_rest,
     edge_decks::greatest_and_least_sizes,
+    edge_splits::numbers_at_their_limits,
+    edge_splits::numbers_at_their_limits,
+    edge_splits::runs_at_the_deduction,
+    edge_splits::runs_as_long_as_the_part,
+    edge_splits::boards_without_effect,
+    edge_splits::moments_next_to_a_thousandth,
+    edge_splits::splits_beside_parts,
+    edge_splits::greatest_and_least_sizes,
+    edge_splits::turned_down,
     edge_figures::displacements_at_columns,
     edge_figures::twenty_columns,
     edge_figures::columns_not_above,

@@ -13,6 +13,7 @@ mod damage;
 mod edge_arms;
 mod edge_decks;
 mod edge_figures;
+mod edge_splits;
 mod edge_totals;
 mod edge_voids;
 mod edge_weighings;
@@ -22,12 +23,15 @@ mod runs;
 mod search;
 mod shows;
 mod spelling;
+mod splits;
 mod totals;
 mod wanted;
 mod weighings;
 
 #[path = "../reference/arms.rs"]
 mod arms;
+#[path = "../reference/boards.rs"]
+mod boards;
 #[path = "../reference/code.rs"]
 #[allow(dead_code)]
 mod code;

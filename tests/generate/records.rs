@@ -1,6 +1,7 @@
 //! Records by chance: likely ones of a bulk carrier, and odd ones anywhere within the limits.
 
 use crate::arms::ANGLES;
+use crate::boards;
 use crate::chance::Chance;
 use crate::grain;
 use crate::search::least_that_holds;
@@ -103,6 +104,9 @@ fn likely_part(chance: &mut Chance, mode: Mode) -> Part {
     let length = chance.between(1_500, 16_000);
     if mode == Mode::Partial {
         let breadth = chance.between(5_000, 24_000);
+        if chance.one_in(3) {
+            return likely_split(chance, length, breadth);
+        }
         let void = depth_reached_or_not(chance, breadth, 9_000);
         return Part::PartlyFilled { length, breadth, void, grain: depth_reached_or_not(chance, breadth, 15_000) };
     }
@@ -129,6 +133,27 @@ fn likely_part(chance: &mut Chance, mode: Mode) -> Part {
         _ => vec![wing(chance), void(chance), wing(chance)],
     };
     Part::Section { length, cells: with_a_lip_that_fits(chance, cells) }
+}
+
+/// A board about the middle or elsewhere, as long as the part or shorter.
+fn likely_split(chance: &mut Chance, length: i128, breadth: i128) -> Part {
+    let left = if chance.one_in(2) { breadth / 2 } else { chance.between(1, breadth - 1) };
+    let run = if chance.one_in(4) { length } else { chance.between(1, length) };
+    Part::Split { length, run, left, right: breadth - left }
+}
+
+/// RUN, LEFT and RIGHT, anywhere within the limits, of a part of this length; every other board is about as long as the
+/// deduction, or as short as a part that is shorter.
+pub fn odd_board(chance: &mut Chance, length: i128) -> (i128, i128, i128) {
+    let breadth = chance.odd(2, 40_000);
+    let left = chance.odd(1, breadth - 1);
+    let right = breadth - left;
+    let run = if chance.one_in(2) {
+        (boards::deduction(left, right) + chance.between(-1, 1)).clamp(1, length)
+    } else {
+        chance.odd(1, length)
+    };
+    (run, left, right)
 }
 
 /// The greatest depth of void or grain that the 25 degree line reaches, over half the breadth.
@@ -164,6 +189,10 @@ pub fn odd_hold(chance: &mut Chance) -> Hold {
 
 pub fn odd_part(chance: &mut Chance, mode: Mode) -> Part {
     let length = chance.odd(1, 60_000);
+    if mode == Mode::Partial && chance.one_in(3) {
+        let (run, left, right) = odd_board(chance, length);
+        return Part::Split { length, run, left, right };
+    }
     if mode == Mode::Partial {
         let breadth = chance.odd(1, 40_000);
         let by_breadth = chance.one_in(2);

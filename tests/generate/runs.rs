@@ -6,6 +6,7 @@ use crate::records;
 use crate::shape::Column;
 use crate::shows;
 use crate::spelling::{self, CLEAR, JUDGE, UNWEIGH};
+use crate::splits;
 use crate::totals;
 use crate::weighings;
 
@@ -125,10 +126,10 @@ fn drop(chance: &mut Chance, sent: &[i128]) -> String {
     spelling::drop(if is_sent { chance.pick(sent) } else { chance.odd(1, 16) })
 }
 
-/// A further record, a drop or a weighing, as a condition is altered between two judges. The numbers are those of the
-/// holds sent.
+/// A further record, a drop or a weighing, as a condition is altered between two judges; now and then a hold with a split
+/// that is turned down. The numbers are those of the holds sent.
 fn change(chance: &mut Chance, likely: bool, columns: &[Column], sent: &mut Vec<i128>) -> Vec<String> {
-    let line = match chance.below(23) {
+    let line = match chance.below(24) {
         0 if chance.one_in(2) => CLEAR.to_string(),
         0 => too_heavy_a_hold(chance),
         1 | 2 => ship(chance, likely),
@@ -144,6 +145,8 @@ fn change(chance: &mut Chance, likely: bool, columns: &[Column], sent: &mut Vec<
         12 => hold(chance, false, sent),
         13 | 14 => return parcels(chance, likely),
         15 => UNWEIGH.to_string(),
+        16 if chance.one_in(3) => splits::out_of_limits(chance),
+        16 => splits::turned_down(chance),
         _ => hold(chance, likely, sent),
     };
     vec![line]

@@ -7,6 +7,7 @@ use crate::records;
 use crate::shape::Item;
 use crate::show;
 use crate::spelling::{self, CLEAR, JUDGE, TOTAL, UNWEIGH};
+use crate::splits;
 use crate::weighings;
 
 /// Words that are nearly `show`, and others: no line that begins with one of them may be five deep.
@@ -14,7 +15,7 @@ const OTHER_WORDS: [&str; 12] =
     ["shown", "sho", "showw", "shows", "sshow", "how", "s", "show1", "sh0w", "showshow", "sho w", "tell"];
 
 /// What show is not around, and words in the wrong place: 14.
-const NO_FORM: [&str; 25] = [
+const NO_FORM: [&str; 30] = [
     "(show)",
     "(show ())",
     "(show (()))",
@@ -34,6 +35,11 @@ const NO_FORM: [&str; 25] = [
     "(show (total) (judge))",
     "(show (part 1 (void 1 1 1)))",
     "(show (part 1 1 1 1))",
+    "(show (split 1 1 1 1))",
+    "(show split)",
+    "(show (hold 1 trimmed 12500 (split 1 1 1 1)))",
+    "(show (hold 1 voided 12500 (part 1 (void 1 1 1)) (split 1 1 1 1)))",
+    "(show (hold 1 partial 12500 (split 1 1 1)))",
     "(show (wing 1 2 3 4))",
     "(show (0 1 2 3 4 5 6 7 8 9))",
     "(show (drop a1))",
@@ -174,7 +180,7 @@ fn any_hold(chance: &mut Chance) -> String {
     let mut parts = Vec::new();
     for _ in 0..chance.pick(&[1, 1, 1, 2, 3, 6]) {
         if mode == "partial" {
-            parts.push(format!("(part {})", numbers(chance, 4)));
+            parts.push(format!("({} {})", chance.pick(&["part", "split"]), numbers(chance, 4)));
             continue;
         }
         let mut cells = Vec::new();
@@ -256,18 +262,19 @@ fn filled(chance: &mut Chance, line: Vec<u8>) -> Vec<u8> {
     })
 }
 
-/// A show line that gets 12, 13 or 14, or a line that is nearly one.
+/// A show line that gets 11 to 14, or a line that is nearly one.
 fn turned_down(chance: &mut Chance) -> Vec<u8> {
     let form = if chance.one_in(2) { record(chance) } else { any_form(chance) };
-    let line = match chance.below(12) {
+    let line = match chance.below(13) {
         0 | 1 => chance.pick(&NO_FORM).to_string(),
         2 => chance.pick(&weighings::SHOWN_WEIGHING).to_string(),
-        3 => format!("(show {form} {})", any_form(chance)),
-        4 => format!("(show (show {form}))"),
-        5 => format!("({} {form})", chance.pick(&OTHER_WORDS)),
-        6 => format!("(show ({form}))"),
-        7..=9 => deep(chance),
-        10 => return damage::out_of_shape(chance, format!("(show {form})").into_bytes()),
+        3 => format!("(show {})", splits::turned_down(chance)),
+        4 => format!("(show {form} {})", any_form(chance)),
+        5 => format!("(show (show {form}))"),
+        6 => format!("({} {form})", chance.pick(&OTHER_WORDS)),
+        7 => format!("(show ({form}))"),
+        8..=10 => deep(chance),
+        11 => return damage::out_of_shape(chance, format!("(show {form})").into_bytes()),
         _ => return damage::unsound_number(chance, format!("(show {form})").into_bytes()),
     };
     spaced(chance, line.as_bytes())

@@ -43,6 +43,7 @@ fn part(part: &Part) -> String {
             format!("(part {length} {})", cells.join(" "))
         }
         Part::PartlyFilled { length, breadth, void, grain } => format!("(part {length} {breadth} {void} {grain})"),
+        Part::Split { length, run, left, right } => format!("(split {length} {run} {left} {right})"),
     }
 }
 

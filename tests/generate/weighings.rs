@@ -94,12 +94,13 @@ pub const SHOWN_WEIGHING: [&str; 8] = [
 ];
 
 /// Lines of every sort that are turned down whatever the condition is: 20 and 21.
-pub const OUT_OF_LIMITS: [&str; 11] = [
+pub const OUT_OF_LIMITS: [&str; 12] = [
     "(ship new 0 1)",
     "(column 99 1 (0 0 0 0 0 0 0 0 0 0))",
     "(load 99 1 0)",
     "(load 100 50001 0)",
     "(hold 1 partial 4999 (part 1 1 1 1))",
+    "(hold 1 partial 12500 (split 1 2 1 1))",
     "(hold 1 trimmed 12500 (part 9000 (void 10000 500 1)))",
     "(drop 17)",
     "(weight 0 500)",

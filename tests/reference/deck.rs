@@ -63,6 +63,12 @@ fn uncut_moment(breadth: i128) -> (i128, i128) {
     (SLOPE_25 * breadth * breadth * breadth, 12 * SLOPE_UNIT)
 }
 
+/// The old figure rounded up: the section moment where neither deck nor floor is in the line's way.
+pub fn uncut_section_moment(breadth: i128) -> i128 {
+    let (numerator, denominator) = uncut_moment(breadth);
+    rounded_up(numerator, denominator)
+}
+
 /// A triangle's area at B/2 − c/3 from mid-breadth. That of grain counts as that of void: together they fill the
 /// rectangle, so that their moments are alike, to different sides.
 fn triangle_moment(area: i128, breadth: i128) -> (i128, i128) {

@@ -3,6 +3,7 @@
 //! Lengths are in mm, void depths in tenths of a mm, areas in mm², section moments in mm³, part and hold moments in
 //! thousandths of m⁴, weight moments in kg·m.
 
+use crate::boards;
 use crate::deck;
 use crate::rounding::{rounded_down, rounded_up};
 use crate::shape::{Cell, Hold, Mode, Part, MOST_CELLS};
@@ -133,13 +134,15 @@ pub fn section_moment(cells: &[Cell]) -> Option<i128> {
 
 // ---- Partly filled, and the sum ----
 
-/// A part: section moment × LENGTH, rounded up to thousandths of m⁴. None if the void does not fit.
+/// A part: section moment × LENGTH, of a split the sum of its two stretches, rounded up once to thousandths of m⁴. None
+/// if the void does not fit.
 fn part_moment(part: &Part) -> Option<i128> {
-    let (section, length) = match part {
-        Part::Section { length, cells } => (section_moment(cells)?, length),
-        Part::PartlyFilled { length, breadth, void, grain } => (deck::section_moment(*breadth, *void, *grain), length),
+    let moment = match part {
+        Part::Section { length, cells } => section_moment(cells)? * length,
+        Part::PartlyFilled { length, breadth, void, grain } => deck::section_moment(*breadth, *void, *grain) * length,
+        Part::Split { length, run, left, right } => boards::moment(*length, *run, *left, *right),
     };
-    Some(rounded_up(section * length, MM4_IN_THOUSANDTH))
+    Some(rounded_up(moment, MM4_IN_THOUSANDTH))
 }
 
 /// The percentage of a hold's mode.
@@ -323,6 +326,34 @@ mod tests {
         // 144,826,278,293 × 10,000 is 1,448,262.8 × 10⁹; 1,448,263 × 1.12 = 1,622,054.56; 1,622,055 × 0.8 is whole.
         let part = Part::PartlyFilled { length: 10_000, breadth: 20_000, void: 1_500, grain: 1_500 };
         assert_eq!(weight_moment(&hold(Mode::Partial, 12_500, vec![part])), Some(1_297_644));
+    }
+
+    #[test]
+    fn a_board_beside_a_tween_deck_and_an_uncut_part() {
+        let weight = |part: Part| weight_moment(&hold(Mode::Partial, 12_500, vec![part]));
+        let partly = |void, grain| Part::PartlyFilled { length: 20_000, breadth: 12_000, void, grain };
+        let split = |run| Part::Split { length: 20_000, run, left: 6_000, right: 6_000 };
+        assert_eq!(weight(split(10_000)), Some(829_453));
+        assert_eq!(weight(partly(600, 6_000)), Some(535_149));
+        assert_eq!(weight(partly(30_000, 30_000)), Some(1_203_304));
+        assert_eq!(weight(split(1_715)), Some(1_203_304), "no effective length");
+        assert_eq!(weight(split(1_716)), Some(1_203_260), "1 mm of it");
+        // 422,113.1 × 10⁹; 422,114 × 1.12 = 472,767.68; 472,768 × 0.8 = 378,214.4.
+        assert_eq!(weight(split(20_000)), Some(378_215), "no exception where the board is as long as the part");
+    }
+
+    #[test]
+    fn a_split_is_rounded_up_once_and_each_part_by_itself() {
+        let split = || Part::Split { length: 60_000, run: 30_000, left: 1, right: 1 };
+        let part = Part::PartlyFilled { length: 1, breadth: 1, void: 1, grain: 1 };
+        let moment = |parts: Vec<Part>| hold_moment(&hold(Mode::Partial, 10_000, parts));
+        // Both stretches have far less than a thousandth: 1 together, × 1.12 rounded up.
+        assert_eq!(moment(vec![split()]), Some(2));
+        assert_eq!(moment(vec![split(), split()]), Some(3));
+        assert_eq!(moment(vec![split(), part, split()]), Some(4));
+        // 1.088 × 10⁹ apart and 88.910 × 10⁹ together: 2 and 89, were each rounded up.
+        let stretches = Part::Split { length: 300, run: 300, left: 1_000, right: 1_000 };
+        assert_eq!(part_moment(&stretches), Some(90));
     }
 
     #[test]

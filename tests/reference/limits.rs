@@ -60,6 +60,9 @@ fn part(part: &Part) -> bool {
         Part::PartlyFilled { length, breadth, void, grain } => {
             part_length(*length) && within(*breadth, 1, 40_000) && within(*void, 1, 30_000) && within(*grain, 1, 30_000)
         }
+        Part::Split { length, run, left, right } => {
+            part_length(*length) && within(*run, 1, *length) && *left >= 1 && *right >= 1 && left + right <= 40_000
+        }
     }
 }
 
@@ -157,6 +160,31 @@ mod tests {
         field("(hold 1 partial 12500 (part 1 1 1 1) (part 1 @ 1 1))", 1, 40_000);
         field("(hold 1 partial 12500 (part 1 1 1 1) (part 1 1 @ 1))", 1, 30_000);
         field("(hold 1 partial 12500 (part 1 1 1 1) (part 1 1 1 @))", 1, 30_000);
+    }
+
+    #[test]
+    fn splits() {
+        let split = |text: &str| format!("(hold 1 partial 12500 (part 1 1 1 1) (split {text}))");
+        field(&split("@ 1 1 1"), 1, 60_000);
+        field(&split("60000 @ 1 1"), 1, 60_000);
+        field(&split("1 @ 1 1"), 1, 1);
+        field(&split("777 @ 1 1"), 1, 777);
+        field(&split("@ 777 1 1"), 777, 60_000);
+        for (left, right) in [(1, 39_999), (7, 39_993), (20_000, 20_000), (39_999, 1)] {
+            field(&split(&format!("1 1 @ {right}")), 1, left);
+            field(&split(&format!("1 1 {left} @")), 1, right);
+        }
+        for breadths in ["0 40000", "40000 0", "40000 1", "1 40000", "65535 1", "1 65535", "40000 25537", "65537 1"] {
+            assert!(!within_limits(&split(&format!("1 1 {breadths}"))), "{breadths}");
+        }
+        for lengths in ["60001 60001", "65536 65536", "65537 65537", "75536 70536", "999999999 999999999", "9 65537"] {
+            assert!(!within_limits(&split(&format!("{lengths} 1 1"))), "{lengths}");
+        }
+        // N, SF and the other parts count as ever.
+        field("(hold @ partial 12500 (split 1 1 1 1))", 1, 16);
+        field("(hold 1 partial @ (split 1 1 1 1))", 5_000, 40_000);
+        field("(hold 1 partial 12500 (split 1 1 1 1) (part @ 1 1 1))", 1, 60_000);
+        assert!(!within_limits("(hold 1 partial 12500 (split 1 1 1 1) (split 1 2 1 1) (split 1 1 1 1))"));
     }
 
     #[test]

@@ -6,6 +6,7 @@
 //! `reference [--max-lines N] [--max-bytes N]` lowers the two limits of the service for tests.
 
 mod arms;
+mod boards;
 mod code;
 mod deck;
 mod grain;

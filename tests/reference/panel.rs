@@ -427,6 +427,58 @@ mod tests {
         assert_eq!(reply(&mut condition, "(total)"), "(answer 00 30084077730)\n");
     }
 
+    /// The worked split: 829,453 kg·m.
+    const SPLIT: &str = "(hold 2 partial 12500 (split 20000 10000 6000 6000))";
+
+    #[test]
+    fn a_hold_with_a_split_is_kept_replaced_dropped_and_totalled_as_any() {
+        let mut condition = after(&RUN[..5]);
+        for (line, total) in [
+            (SPLIT, 118_548 + 829_453),
+            (SPLIT, 118_548 + 829_453),
+            // Beside a part of 535,149 kg·m: 597,264 and 925,728 thousandths of m⁴.
+            ("(hold 2 partial 12500 (part 20000 12000 600 6000) (split 20000 10000 6000 6000))", 118_548 + 1_364_602),
+            (RUN[5], 118_548 + 601_653),
+            (SPLIT, 118_548 + 829_453),
+            ("(hold 16 partial 12500 (split 20000 1715 6000 6000))", 118_548 + 829_453 + 1_203_304),
+            ("(hold 1 partial 12500 (split 20000 20000 6000 6000))", 378_215 + 829_453 + 1_203_304),
+            ("(drop 2)", 378_215 + 1_203_304),
+            ("(drop 16)", 378_215),
+            ("(clear)", 0),
+        ] {
+            assert_eq!(reply(&mut condition, line), "(answer 00)\n", "{line}");
+            assert_eq!(reply(&mut condition, "(total)"), format!("(answer 00 {total})\n"), "{line}");
+        }
+    }
+
+    #[test]
+    fn a_split_turned_down_keeps_the_former_hold() {
+        let mut condition = after(&[&RUN[..5], &[SPLIT]].concat());
+        let verdict = reply(&mut condition, RUN[6]);
+        for (line, number) in [
+            ("(hold 2 partial 12500 (split 20000 20001 6000 6000))", 20),
+            ("(hold 2 partial 12500 (split 20000 0 6000 6000))", 20),
+            ("(hold 2 partial 12500 (split 20000 10000 0 6000))", 20),
+            ("(hold 2 partial 12500 (split 20000 10000 6000 34001))", 20),
+            ("(hold 2 partial 12500 (split 20000 10000 6000 6000) (split 60001 10000 6000 6000))", 20),
+            ("(hold 3 partial 12500 (split 20000 10000 65535 1))", 20),
+            ("(hold 17 partial 12500 (split 20000 10000 6000 6000))", 20),
+            ("(hold 2 trimmed 12500 (split 20000 10000 6000 6000))", 14),
+            ("(hold 2 voided 12500 (part 20000 (void 1 1 1)) (split 20000 10000 6000 6000))", 14),
+            // 14 comes before 20, and 13 before 14.
+            ("(hold 2 trimmed 12500 (split 0 0 0 0))", 14),
+            ("(hold 2 trimmed 12500 (split 00 0 0 0))", 13),
+            ("(hold 2 partial 12500 (split 20000 10000 6000))", 14),
+            ("(hold 2 partial 12500 (split 20000 10000 6000 6000)", 12),
+            ("(hold 2 partial 12500 (Split 20000 10000 6000 6000))", 11),
+            ("(split 20000 10000 6000 6000)", 14),
+        ] {
+            assert_eq!(code(&mut condition, line), number, "{line}");
+        }
+        assert_eq!(reply(&mut condition, RUN[6]), verdict);
+        assert_eq!(reply(&mut condition, "(total)"), "(answer 00 948001)\n");
+    }
+
     /// Two items that make the load of the panel run, and the line that makes it of them.
     const PARTS: [&str; 2] = ["(weight 20000 7000)", "(weight 5000 12000)"];
     const WEIGHED: &str = "(weighed 100)";
@@ -700,6 +752,7 @@ mod tests {
             ("(show(load 999999999 0 65536))", "(load 999999999 0 65536)\n"),
             ("(show (ship old 0 9001))", "(ship old 0 9001)\n"),
             ("(show(hold 17 trimmed 0(part 0(void 1 1 0))))", "(hold 17 trimmed 0 (part 0 (void 1 1 0)))\n"),
+            ("(show(hold 0 partial 0(split 0 65536 9 0)))", "(hold 0 partial 0 (split 0 65536 9 0))\n"),
         ] {
             assert_eq!(shown(&mut condition, line), right, "{line}");
         }

@@ -73,6 +73,8 @@ pub enum Part {
     Section { length: i128, cells: Vec<Cell> },
     /// `(part LENGTH BREADTH VOID GRAIN)`, of `partial`.
     PartlyFilled { length: i128, breadth: i128, void: i128, grain: i128 },
+    /// `(split LENGTH RUN LEFT RIGHT)`, of `partial` too (document 02, P7).
+    Split { length: i128, run: i128, left: i128, right: i128 },
 }
 
 /// `(hold N MODE SF PART ..)`
@@ -214,15 +216,17 @@ fn hold(items: &mut Items) -> Result<Hold, Code> {
 
 fn part(items: &mut Items, mode: Mode) -> Result<Part, Code> {
     items.open()?;
-    if items.word()? != b"part" {
-        return Err(Code::NoSuchShape);
-    }
+    let word = items.word()?;
     let length = items.number()?;
-    let part = match mode {
-        Mode::Trimmed | Mode::Voided => Part::Section { length, cells: cells(items)? },
-        Mode::Partial => {
+    let part = match (word, mode) {
+        (b"part", Mode::Trimmed | Mode::Voided) => Part::Section { length, cells: cells(items)? },
+        (b"part", Mode::Partial) => {
             Part::PartlyFilled { length, breadth: items.number()?, void: items.number()?, grain: items.number()? }
         }
+        (b"split", Mode::Partial) => {
+            Part::Split { length, run: items.number()?, left: items.number()?, right: items.number()? }
+        }
+        _ => return Err(Code::NoSuchShape),
     };
     items.close()?;
     Ok(part)
@@ -355,6 +359,19 @@ mod tests {
                 parts: vec![Part::PartlyFilled { length: 3, breadth: 4, void: 5, grain: 6 }],
             }))
         );
+        assert_eq!(
+            read_form("(hold 1 partial 2(split 3 4 5 6)(part 7 8 9 10)  ( split 11 12 13 14 ) )"),
+            Ok(Form::Hold(Hold {
+                n: 1,
+                mode: Mode::Partial,
+                sf: 2,
+                parts: vec![
+                    Part::Split { length: 3, run: 4, left: 5, right: 6 },
+                    Part::PartlyFilled { length: 7, breadth: 8, void: 9, grain: 10 },
+                    Part::Split { length: 11, run: 12, left: 13, right: 14 },
+                ],
+            }))
+        );
         assert_eq!(read_form("(drop 999999999)"), Ok(Form::Drop(999_999_999)));
         assert_eq!(read_form(" ( judge ) "), Ok(Form::Judge));
         assert_eq!(read_form("(clear)"), Ok(Form::Clear));
@@ -416,8 +433,73 @@ mod tests {
             assert_eq!(read_form(&hold_of(&["(part 1 (void 1 1 1))"; 7], mode)), Err(Code::NoSuchShape));
             assert_eq!(read_form(&hold_of(&[nine_cells.as_str()], mode)), Err(Code::NoSuchShape));
         }
-        assert!(read_form(&hold_of(&["(part 1 1 1 1)"; 6], "partial")).is_ok());
-        assert_eq!(read_form(&hold_of(&["(part 1 1 1 1)"; 7], "partial")), Err(Code::NoSuchShape));
+        for six in [["(part 1 1 1 1)"; 6], ["(split 1 1 1 1)"; 6]] {
+            assert!(read_form(&hold_of(&six, "partial")).is_ok());
+            for seventh in ["(part 1 1 1 1)", "(split 1 1 1 1)"] {
+                let seven = [&six[..], &[seventh]].concat();
+                assert_eq!(read_form(&hold_of(&seven, "partial")), Err(Code::NoSuchShape));
+            }
+        }
+    }
+
+    #[test]
+    fn a_split_has_four_numbers_in_a_partial_hold() {
+        let (part, split, section) = ("(part 1 1 1 1)", "(split 1 1 1 1)", "(part 1 (void 1 1 1))");
+        for parts in [vec![split], vec![split, part], vec![part, split, split, part], vec![split; 6]] {
+            assert!(read_form(&hold_of(&parts, "partial")).is_ok(), "{parts:?}");
+        }
+        for mode in ["trimmed", "voided"] {
+            for parts in [vec![split], vec![section, split], vec![split, section], vec!["(split 1 (void 1 1 1))"]] {
+                assert_eq!(read_form(&hold_of(&parts, mode)), Err(Code::NoSuchShape), "{parts:?}");
+            }
+        }
+        for part in [
+            "(split)",
+            "(split 1)",
+            "(split 1 1 1)",
+            "(split 1 1 1 1 1)",
+            "(split 1 1 1 a)",
+            "(split a 1 1 1)",
+            "(split 1 1 1 a1)",
+            "(split 1 1 (1 1))",
+            "(split (1 1 1 1))",
+            "(split 1 1 1 1 ())",
+            "(split 1 (void 1 1 1))",
+            "(split 1 1 1 1 (void 1 1 1))",
+            "(split split 1 1 1 1)",
+            "(split1 1 1 1)",
+            "(splits 1 1 1 1)",
+            "(spli 1 1 1 1)",
+            "(splitt 1 1 1 1)",
+            "(sp lit 1 1 1 1)",
+            "(plit 1 1 1 1)",
+            "(1 split 1 1 1)",
+            "((split 1 1 1 1))",
+            "split",
+            "split 1 1 1 1",
+            "(part 1 (split 1 1 1 1))",
+        ] {
+            for parts in [vec![part], vec![split, part], vec![part, split]] {
+                assert_eq!(read_form(&hold_of(&parts, "partial")), Err(Code::NoSuchShape), "{parts:?}");
+            }
+        }
+        for line in [
+            "(split 1 1 1 1)",
+            "((split 1 1 1 1))",
+            "(show (split 1 1 1 1))",
+            "(hold 1 split 12500 (split 1 1 1 1))",
+            "(hold 1 partial (split 1 1 1 1))",
+            "(split 1 partial 12500 (part 1 1 1 1))",
+            "(show (hold 1 trimmed 12500 (split 1 1 1 1)))",
+            "(show (hold 1 partial 12500 (split 1 1 1)))",
+        ] {
+            assert_eq!(read(line.as_bytes()).and_then(request), Err(Code::NoSuchShape), "{line:?}");
+        }
+        for part in ["(split 01 1 1 1)", "(split 1 1 1 00)", "(split 1 1000000000 1 1)", "(split 1 1 1a 1)"] {
+            for mode in ["trimmed", "partial"] {
+                assert_eq!(read_form(&hold_of(&[part], mode)), Err(Code::NotANumber), "{part:?}");
+            }
+        }
     }
 
     #[test]
@@ -428,6 +510,8 @@ mod tests {
             "(load 0 0 0)",
             "(hold 99 voided 2 (part 3 (wing 4 5 6 7) (hatch 8 9 10) (void 11 12 13)))",
             "(hold 1 partial 2 (part 3 4 5 6) (part 0 0 0 0))",
+            "(hold 1 partial 2 (split 3 4 5 6))",
+            "(hold 1 partial 2 (split 0 999999999 0 999999999) (part 0 0 0 0) (split 3 4 5 6))",
             "(drop 99)",
             "(judge)",
             "(clear)",

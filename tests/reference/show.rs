@@ -43,6 +43,10 @@ mod tests {
             ("(column   1   2   (   0 1 2 3 4 5 6 7 8 9   )   )", "(column 1 2 (0 1 2 3 4 5 6 7 8 9))"),
             ("(hold 1 partial 2(part 3 4 5 6)(part 7 8 9 10))", "(hold 1 partial 2 (part 3 4 5 6) (part 7 8 9 10))"),
             (
+                "(hold 1 partial 2(split 3 4 5 6)( split 7  8 9 0))",
+                "(hold 1 partial 2 (split 3 4 5 6) (split 7 8 9 0))",
+            ),
+            (
                 "(hold 1 voided 2(part 3(wing 4 5 6 7)(hatch 8 9 10)  (  void 11 12 13 ) ) )",
                 "(hold 1 voided 2 (part 3 (wing 4 5 6 7) (hatch 8 9 10) (void 11 12 13)))",
             ),

@@ -13,13 +13,14 @@ use Rattle.boards.specs.Exact.{OfOne, EffectiveLength}
 use Rattle.boards.specs.Laws.{LeftOfRun, NothingLeft, OneEffectiveLength, VolumesAreMade, BoardsAddNothing, IneffectiveAlike, Laws}
 use Rattle.boards.proofs.Moments.{deep_uncut, separately}
 use Rattle.boards.proofs.Fits.{effective_le, volume_fits_lem}
+use Rattle.boards.proofs.Near.{near_the_exact_lem}
 
 -- ---- the effective length
 left_of_run_lem : LeftOfRun
 left_of_run_lem run l r p = (omega arith, omega arith, omega arith)
 
 nothing_left_lem : NothingLeft
-nothing_left_lem run l r e = omega arith
+nothing_left_lem run l r = (λ e. omega arith, λ h. omega arith)
 
 -- what is taken off is of the greater of the two
 of_one : (taken l r : ℕ) → 7 * taken < 2 * max l r + 7 → OfOne taken l r
@@ -96,6 +97,7 @@ laws =
       nothing_left = nothing_left_lem;
       one_effective_length = one_effective_length_lem;
       volumes_are_made = volumes_are_made_lem;
+      near_the_exact = near_the_exact_lem;
       separately_no_more = separately;
       boards_add_nothing = boards_add_nothing_lem;
       ineffective_alike = ineffective_alike_lem;

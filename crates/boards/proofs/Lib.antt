@@ -1,3 +1,4 @@
 pub mod Moments
 pub mod Fits
+pub mod Near
 pub mod Laws

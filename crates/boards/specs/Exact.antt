@@ -1,6 +1,6 @@
 -- Document 02, P7, in its own words and numbers: the effective length of a board, and what a part beside it is made of. Nothing here rests on the
 -- definitions by which the program is proved.
-use Rattle.std.specs.Prelude.{◌≡◌, ◌⊎◌, ℕ, ◌+◌, ◌*◌, ◌-◌, ◌≤◌, ◌<◌}
+use Rattle.std.specs.Prelude.{◌≡◌, ◌⊎◌, ℕ, ◌+◌, ◌*◌, ◌-◌, ◌≤◌, ◌<◌, max}
 use Rattle.cells.specs.Figures.{RoundedUp}
 
 -- 7 × what is taken off RUN is less than 2 × the breadth + 7, of one of the two: no more is taken off than two-sevenths of it, rounded up
@@ -29,3 +29,14 @@ pub record SplitVolume (length run l r v : ℕ) : Type 0 where
   pub right : RoundedUp (46631 * (r * r * r)) (12 * 100000) right_moment
   pub whole : RoundedUp (46631 * ((l + r) * (l + r) * (l + r))) (12 * 100000) whole_moment
   pub sum : v ≡ (left_moment + right_moment) * effective + whole_moment * rest
+
+-- the same with nothing rounded: two-sevenths of the greater breadth are taken off RUN to a seventh of a mm, and the section moments are slope × breadth³/12.
+-- In parts of a mm⁴ of which 8,400,000, 7 × 12 × 100,000, make one
+abbrev pub sevenths_left : (run l r : ℕ) → ℕ
+sevenths_left run l r = 7 * run - 2 * max l r
+
+abbrev pub exact_over : (length sevenths l r : ℕ) → ℕ
+exact_over length sevenths l r = 46631 * ((l * l * l + r * r * r) * sevenths + (l + r) * (l + r) * (l + r) * (7 * length - sevenths))
+
+abbrev pub exact_volume : (length run l r : ℕ) → ℕ
+exact_volume length run l r = exact_over length (sevenths_left run l r) l r

@@ -1,12 +1,12 @@
 -- Laws of a part beside a board. Proved in proofs/Laws.antt.
-use Rattle.std.specs.Prelude.{◌≡◌, ◌⊎◌, ℕ, ◌+◌, ◌*◌, ◌-◌, ◌≤◌, ◌<◌, max}
+use Rattle.std.specs.Prelude.{◌≡◌, ◌⊎◌, ◌↔◌, ℕ, ◌+◌, ◌*◌, ◌-◌, ◌≤◌, ◌<◌, max}
 use Rattle.whole.specs.Divide.{ceil_div}
 use Rattle.slack.specs.Deck.{uncut_moment, deck_moment}
 use Rattle.boards.specs.Split.{effective_length, beside_board, split_volume}
-use Rattle.boards.specs.Exact.{EffectiveLength, SplitVolume}
+use Rattle.boards.specs.Exact.{EffectiveLength, SplitVolume, exact_volume}
 
 -- P7's rule of the effective length e, by the greater breadth: where some is left, 7 × (RUN − e) is at least 2 × each breadth and less than 2 × the greater + 7;
--- where none is left, 7 × RUN is less than 2 × the greater + 7
+-- none is left exactly where 7 × RUN is less than 2 × the greater + 7
 abbrev pub LeftOfRun : Type 0
 LeftOfRun =
     (run l r : ℕ) → 0 < effective_length run l r →
@@ -14,7 +14,7 @@ LeftOfRun =
     × (7 * (run - effective_length run l r) < 2 * max l r + 7)
 
 abbrev pub NothingLeft : Type 0
-NothingLeft = (run l r : ℕ) → effective_length run l r ≡ 0 → 7 * run < 2 * max l r + 7
+NothingLeft = (run l r : ℕ) → (effective_length run l r ≡ 0) ↔ (7 * run < 2 * max l r + 7)
 
 -- no other number is an effective length
 abbrev pub OneEffectiveLength : Type 0
@@ -23,6 +23,13 @@ OneEffectiveLength = (run l r e : ℕ) → EffectiveLength run l r e → e ≡ e
 -- what is weighed is made as the request says, of every board that is no longer than its part
 abbrev pub VolumesAreMade : Type 0
 VolumesAreMade = (length run l r : ℕ) → run ≤ length → SplitVolume length run l r (split_volume length run l r)
+
+-- so a part's sum is never below the exact one, and above it by less than 2 × LENGTH + LEFT × RIGHT × (LEFT + RIGHT)/10 mm⁴
+abbrev pub NearTheExact : Type 0
+NearTheExact =
+    (length run l r : ℕ) → run ≤ length → 1 ≤ l → 1 ≤ r →
+    (exact_volume length run l r ≤ 8400000 * split_volume length run l r)
+    × (8400000 * split_volume length run l r < exact_volume length run l r + 16800000 * length + 840000 * (l * r * (l + r)))
 
 -- two breadths that shift separately have no more than both as one, but for two of 1 mm, whose roundings give 2 against 1
 abbrev pub SeparatelyNoMore : Type 0
@@ -49,6 +56,7 @@ pub record Laws : Type 0 where
   pub nothing_left : NothingLeft
   pub one_effective_length : OneEffectiveLength
   pub volumes_are_made : VolumesAreMade
+  pub near_the_exact : NearTheExact
   pub separately_no_more : SeparatelyNoMore
   pub boards_add_nothing : BoardsAddNothing
   pub ineffective_alike : IneffectiveAlike

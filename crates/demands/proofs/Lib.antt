@@ -13,4 +13,5 @@ pub mod Demand3
 pub mod Runs
 pub mod Total
 pub mod Items
+pub mod Boards
 pub mod Demands

@@ -1,8 +1,8 @@
--- The three demands (document 00), and show, total and the weight items (document 02, P2, P4 and P5), of the step of one line and of its repetition over any list of lines. Proved in
+-- The three demands (document 00), and show, total, the weight items and boards (document 02, P2, P4, P5 and P7), of the step of one line and of its repetition over any list of lines. Proved in
 -- proofs/Demands.antt. What each layer says by itself stands there: line_codes/specs/Codes.antt, limits/specs/Ranges.antt,
--- cells/specs/Figures.antt, slack/specs/Exact.antt, grain/specs/Figures.antt, stability/specs/Demand.antt, reply/specs/Shown.antt,
+-- cells/specs/Figures.antt, slack/specs/Exact.antt, boards/specs/Exact.antt, grain/specs/Figures.antt, stability/specs/Demand.antt, reply/specs/Shown.antt,
 -- judging/specs/Codes.antt, operations/specs/Codes.antt, storing/specs/Stores.antt, spelling/specs/SoSpelled.antt, weights/specs/Items.antt, sending/specs/Laws.antt;
--- the codes of a line in Codes.antt, show in Show.antt, total in Total.antt, weight items in Items.antt, the worked runs in Runs.antt.
+-- the codes of a line in Codes.antt, show in Show.antt, total in Total.antt, weight items in Items.antt, boards in Boards.antt, the worked runs in Runs.antt.
 use Rattle.std.specs.Prelude.{◌≡◌, true, List, [], ◌∷◌, ◌++◌, ◌↔◌, ℕ, ◌+◌, ◌-◌, ◌≤◌, ◌<◌, length, get_or, Some}
 use Rattle.whole.specs.Lists.{is_one_of}
 use Rattle.record.specs.declared.Ship.{Ship}
@@ -13,7 +13,9 @@ use Rattle.record.specs.declared.WeightItem.{WeightItem}
 use Rattle.record.specs.declared.Weighing.TheVariants.{Weight, Weighed, Unweigh}
 use Rattle.record.specs.Held.{held}
 use Rattle.record.specs.Filler.{no_column, no_hold}
+use Rattle.boards.specs.Laws.{Laws}
 use Rattle.grain.specs.Figures.{total, WeightMoment}
+use Rattle.grain.specs.Boards.{BoardsAddNoWeight}
 use Rattle.arms.specs.declared.Basis.{Basis}
 use Rattle.stability.specs.Verdict.{judgement_code, verdict_of}
 use Rattle.arms.specs.Exact.{EveryAngle}
@@ -32,13 +34,15 @@ use Rattle.panel.specs.Step.{Outcome, step_of, Sent, condition_after, outcomes}
 use Rattle.weights.specs.Items.{SumsOfItems}
 use Rattle.judging.specs.Complete.{Places, InRanges, Complete}
 use Rattle.storing.specs.Stores.{ShipStored, LoadStored, ColumnStored, HoldStored, HoldDropped, ItemStored, WeighedStored, ItemsRemoved}
+use Rattle.showing.specs.Laws.{TakenAsSplit}
 use Rattle.sending.specs.Within.{Within}
 use Rattle.sending.specs.Laws.{RecordsCanBeSent}
 use Rattle.demands.specs.Codes.{request, Asks, ByOperation}
 use Rattle.demands.specs.Show.{ShowsAForm, ShowsTheForm, ShapesAreFourDeep}
 use Rattle.demands.specs.Total.{StoredIsTheSum, TotalStandsAlone, TotalWithItems, TotalsAreShown, StoredIsShown, SentWeighTheSame}
 use Rattle.demands.specs.Items.{SumsAreOfTheItems, ItemsCanBeTaken, WeighedMakesTheLoad, WeighedIsWithin, WeighingStandsAlone, WeighingWithOther}
-use Rattle.demands.specs.Runs.{FirstRun, SecondRun, DeckRun, ShowRun, TotalRun, WeighingRun}
+use Rattle.demands.specs.Boards.{SplitIsNotOfCells}
+use Rattle.demands.specs.Runs.{FirstRun, SecondRun, DeckRun, ShowRun, TotalRun, WeighingRun, BoardRun}
 
 -- ---- Demand 1
 
@@ -127,8 +131,8 @@ SpacesAreFree =
     step_of c (a ++ 32 ∷ b) lent ≡ step_of c (a ++ b) lent
 
 -- W is the weight moments of the holds held, added up: hold n stands at the place n − 1. What each is made from, grain/specs/Figures.antt says:
--- of a trimmed or voided hold each part by `SectionMoment`, of a partial one each part by `DeckMoment` (slack/specs/Exact.antt), with the
--- accuracy of each
+-- of a trimmed or voided hold each part by `SectionMoment`, of a partial one each part by `DeckMoment` (slack/specs/Exact.antt) or beside a board by
+-- `SplitVolume` (boards/specs/Exact.antt), with the accuracy of each
 pub record TotalWeight (c : Condition) (w : ℕ) : Type 0 where
   pub weights : ℕ → ℕ
   pub held : (i : ℕ) → i < 16 → 0 < (get_or c.holds i no_hold).head.count → WeightMoment (get_or c.holds i no_hold) (weights i)
@@ -211,6 +215,13 @@ pub record Demands : Type 0 where
   pub weighing_stands_alone : WeighingStandsAlone
   pub weighing_with_other : WeighingWithOther
   pub weighing_run : WeighingRun
+  -- of a partial hold a part beside a board is read exactly from `(split LENGTH RUN LEFT RIGHT)` (showing/specs/Laws.antt)
+  pub taken_as_split : TakenAsSplit
+  pub split_is_not_of_cells : SplitIsNotOfCells
+  -- what a part beside a board weighs (boards/specs/Laws.antt), and that it makes no hold heavier (grain/specs/Boards.antt)
+  pub board_laws : Laws
+  pub boards_add_no_weight : BoardsAddNoWeight
+  pub board_run : BoardRun
   pub spaces_are_free : SpacesAreFree
   pub numbers_are_read : NumbersAreRead
   pub weight_is_total : WeightIsTotal

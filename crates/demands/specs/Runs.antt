@@ -6,7 +6,7 @@
 -- one whose two terms have hundredths, 447.34 + 189.75, so that each rounded by itself gives another tenth; one at the least depth; an
 -- excess that moves past a cell with room, a void that does not fit; FLOOD inside a step; each of 40 to 43 once, and a DIFF below zero
 -- beyond UPPER with 00. The third is of partly filled parts of each shape, the fourth of show lines, the fifth of totals,
--- the sixth of weight items.
+-- the sixth of weight items, the seventh of boards.
 use Rattle.std.specs.Prelude.{◌≡◌, List, [], ◌∷◌, map, ℕ, take}
 use Prim.Native.String.{String}
 use Rattle.whole.specs.Bytes.{bytes}
@@ -376,4 +376,99 @@ WeighingRun =
     ∷ "(answer 00)\n"
     ∷ "(answer 27)\n"
     ∷ "(answer 00)\n"
+    ∷ [])
+
+-- boards: one worked by hand, against parts from side to side; boards as long as what is taken off, and 1 mm longer; breadths unlike on either
+-- side; beside a part; the greatest and the least; outside the limits, where sums of 16 bits would be within them; in holds of cells, with a
+-- number too few or too many, alone; in a show; dropped
+abbrev pub boards : List String
+boards =
+    "(hold 1 partial 12500 (split 20000 10000 6000 6000))"
+    ∷ "(total)"
+    ∷ "(hold 1 partial 12500 (part 20000 12000 600 6000))"
+    ∷ "(total)"
+    ∷ "(hold 1 partial 12500 (part 20000 12000 30000 30000))"
+    ∷ "(total)"
+    ∷ "(hold 1 partial 12500 (split 20000 1715 6000 6000))"
+    ∷ "(total)"
+    ∷ "(hold 1 partial 12500 (split 20000 1716 6000 6000))"
+    ∷ "(total)"
+    ∷ "(hold 1 partial 12500 (split 20000 20000 4001 8003))"
+    ∷ "(total)"
+    ∷ "(hold 1 partial 12500 (split 20000 20000 8003 4001))"
+    ∷ "(total)"
+    ∷ "(hold 1 partial 12500 (part 10000 12000 3000 6000) (split 20000 10000 6000 6000))"
+    ∷ "(total)"
+    ∷ "(hold 1 partial 12500 (split 60000 1 1 39999))"
+    ∷ "(total)"
+    ∷ "(hold 1 partial 12500 (split 60000 60000 1 1))"
+    ∷ "(total)"
+    ∷ "(hold 1 partial 12500 (split 20000 20001 6000 6000))"
+    ∷ "(hold 1 partial 12500 (split 60001 1 1 1))"
+    ∷ "(hold 1 partial 12500 (split 70000 70000 1 1))"
+    ∷ "(hold 1 partial 12500 (split 1 0 1 1))"
+    ∷ "(hold 1 partial 12500 (split 1 1 0 1))"
+    ∷ "(hold 1 partial 12500 (split 0 0 0 0))"
+    ∷ "(hold 1 partial 12500 (split 1 1 1 0))"
+    ∷ "(hold 1 partial 12500 (split 1 1 20000 20001))"
+    ∷ "(hold 1 partial 12500 (split 1 1 65536 1))"
+    ∷ "(hold 1 partial 12500 (split 1 1 40000 25537))"
+    ∷ "(hold 1 trimmed 12500 (split 20000 10000 6000 6000))"
+    ∷ "(hold 1 voided 12500 (part 10000 (void 10000 500 5000)) (split 20000 10000 6000 6000))"
+    ∷ "(hold 1 partial 12500 (split 20000 10000 6000))"
+    ∷ "(hold 1 partial 12500 (split 20000 10000 6000 6000 6000))"
+    ∷ "(hold 1 partial 12500 (split 20000 10000 6000 6000 6000 6000))"
+    ∷ "(split 20000 10000 6000 6000)"
+    ∷ "(show(hold 99 partial 1(split 2 3 4 5)(part 6 7 8 9)))"
+    ∷ "(show (hold 1 trimmed 1 (split 2 3 4 5)))"
+    ∷ "(total)"
+    ∷ "(drop 1)"
+    ∷ "(total)"
+    ∷ []
+
+abbrev pub BoardRun : Type 0
+BoardRun =
+    replies 2100 boards
+    ≡ map bytes
+    ("(answer 00)\n"
+    ∷ "(answer 00 829453)\n"
+    ∷ "(answer 00)\n"
+    ∷ "(answer 00 535149)\n"
+    ∷ "(answer 00)\n"
+    ∷ "(answer 00 1203304)\n"
+    ∷ "(answer 00)\n"
+    ∷ "(answer 00 1203304)\n"
+    ∷ "(answer 00)\n"
+    ∷ "(answer 00 1203260)\n"
+    ∷ "(answer 00)\n"
+    ∷ "(answer 00 493357)\n"
+    ∷ "(answer 00)\n"
+    ∷ "(answer 00 493357)\n"
+    ∷ "(answer 00)\n"
+    ∷ "(answer 00 1431105)\n"
+    ∷ "(answer 00)\n"
+    ∷ "(answer 00 133700405)\n"
+    ∷ "(answer 00)\n"
+    ∷ "(answer 00 2)\n"
+    ∷ "(answer 20)\n"
+    ∷ "(answer 20)\n"
+    ∷ "(answer 20)\n"
+    ∷ "(answer 20)\n"
+    ∷ "(answer 20)\n"
+    ∷ "(answer 20)\n"
+    ∷ "(answer 20)\n"
+    ∷ "(answer 20)\n"
+    ∷ "(answer 20)\n"
+    ∷ "(answer 20)\n"
+    ∷ "(answer 14)\n"
+    ∷ "(answer 14)\n"
+    ∷ "(answer 14)\n"
+    ∷ "(answer 14)\n"
+    ∷ "(answer 14)\n"
+    ∷ "(answer 14)\n"
+    ∷ "(hold 99 partial 1 (split 2 3 4 5) (part 6 7 8 9))\n"
+    ∷ "(answer 14)\n"
+    ∷ "(answer 00 2)\n"
+    ∷ "(answer 00)\n"
+    ∷ "(answer 00 0)\n"
     ∷ [])

@@ -14,22 +14,26 @@ use Rattle.record.specs.declared.Mode.{Mode}
 use Rattle.record.specs.declared.Mode.TheVariants.{Trimmed, Voided, Partial}
 use Rattle.record.specs.declared.Cell.{Cell}
 use Rattle.record.specs.declared.Cell.TheVariants.{Void}
+use Rattle.record.specs.declared.Slack.{Slack}
+use Rattle.record.specs.declared.Slack.TheVariants.{Undivided, Split}
 use Rattle.record.specs.declared.Part.{Part}
 use Rattle.record.specs.declared.Hold.{Hold}
 use Rattle.record.specs.Filler.{no_part}
 use Rattle.record.specs.Held.{cell_width, cell_lip, cells_of, parts_of}
-use Rattle.limits.specs.Limits.{slack_limits, part_limits, hold_limits}
+use Rattle.limits.specs.Limits.{section_limits, part_limits, hold_limits}
+use Rattle.limits.specs.Ranges.{SizeRange}
 use Rattle.limits.proofs.Ranges.{slack_range}
-use Rattle.slack.specs.Exact.{DeckMoment}
+use Rattle.slack.specs.Deck.{deck_moment}
 use Rattle.slack.proofs.Rows.{moments_near}
+use Rattle.boards.proofs.Laws.{laws}
 use Rattle.cells.specs.Depth.{cell_area}
 use Rattle.cells.specs.Sizes.{cell_most}
 use Rattle.cells.proofs.Figures.{rounded_up, area_is, most_is, area_only, most_only}
 use Rattle.grain.specs.Section.{Kept, kept, kept_of, base, first_moment, old_twice, fits, fits_from, section_moment}
-use Rattle.grain.specs.Slack.{slack_moment}
-use Rattle.grain.specs.Sum.{part_section, part_moment, percentage, hold_moment, weight_moment, part_fits, hold_fits}
+use Rattle.grain.specs.Slack.{slack_over, slack_volume}
+use Rattle.grain.specs.Sum.{section_volume, part_volume, part_moment, percentage, hold_moment, weight_moment, part_fits, hold_fits}
 use Rattle.grain.specs.Within.{SectionWithin}
-use Rattle.grain.specs.Figures.{total, cell, KeptAreas, Fits, FirstTaken, SectionMoment, PartFits, HoldFits, PartSection, percent, part, WeightMoment}
+use Rattle.grain.specs.Figures.{total, cell, KeptAreas, Fits, FirstTaken, SectionMoment, PartFits, HoldFits, SectionVolume, SlackVolume, PartVolume, percent, part, WeightMoment}
 use Rattle.grain.proofs.Sections.{first_triangle, first_trapezium, trapezium_taken, base_is, areas_le, kept_sum, kept_length}
 use Rattle.grain.proofs.Walks.{part_within, cells_section}
 use Rattle.grain.proofs.Weights.{hold_within}
@@ -177,14 +181,19 @@ section_moment_lem (c ∷ cs) w =
     }
 
 -- ---- the sum
-slack : (p : Part) → slack_limits p ≡ true → DeckMoment p.breadth p.void p.grain (slack_moment p)
-unfolding slack_moment
-slack p e = moments_near p.breadth p.void p.grain (omega (arith, ((slack_range p).0 e).3))
+of_cells : (p : Part) → section_limits p ≡ true → length p.cells ≡ 8 → SectionVolume p (section_volume p)
+of_cells p e l =
+    record { moment = section_moment (cells_of p); section = section_moment_lem (cells_of p) (cells_section p (part_within p e) l); volume = refl }
 
-section_of : (mode : Mode) (p : Part) → part_limits mode p ≡ true → length p.cells ≡ 8 → PartSection mode p (part_section mode p)
-section_of Trimmed p e l = section_moment_lem (cells_of p) (cells_section p (part_within p e) l)
-section_of Voided p e l = section_moment_lem (cells_of p) (cells_section p (part_within p e) l)
-section_of Partial p e l = slack p e
+of_sizes : (n : ℕ) (s : Slack) → SizeRange n s → SlackVolume n s (slack_over n s)
+of_sizes n (Undivided b v g) r = record { moment = deck_moment b v g; section = moments_near b v g (omega arith); volume = refl }
+of_sizes n (Split run left right) r = laws.volumes_are_made n run left right r.1
+
+volume_of : (mode : Mode) (p : Part) → part_limits mode p ≡ true → length p.cells ≡ 8 → PartVolume mode p (part_volume mode p)
+unfolding slack_volume
+volume_of Trimmed p e l = of_cells p e l
+volume_of Voided p e l = of_cells p e l
+volume_of Partial p e l = of_sizes p.length p.slack ((slack_range p).0 e).2
 
 percent_is : (mode : Mode) → percentage mode ≡ percent mode
 percent_is Trimmed = refl
@@ -204,11 +213,11 @@ unfolding part_moment hold_moment weight_moment
 weight_moment_lem h e eight =
     let w = hold_within h e in
     record {
-      sections = λ i. part_section h.head.mode (part h i);
+      volumes = λ i. part_volume h.head.mode (part h i);
       parts = λ i. part_moment h.head.mode (part h i);
       moment = hold_moment h;
-      section = λ i l. section_of h.head.mode (part h i) (all_at (part_limits h.head.mode) (parts_of h) i no_part w.parts l) (eight i l);
-      rounded = λ i l. rounded_up (part_section h.head.mode (part h i) * (part h i).length) 1000000000 (omega arith);
+      volume = λ i l. volume_of h.head.mode (part h i) (all_at (part_limits h.head.mode) (parts_of h) i no_part w.parts l) (eight i l);
+      rounded = λ i l. rounded_up (part_volume h.head.mode (part h i)) 1000000000 (omega arith);
       hold = rw (parts_sum h) (rounded_up (sum_of (part_moment h.head.mode) (parts_of h) * percentage h.head.mode) 100 (omega arith));
       weight = rounded_up (10000 * hold_moment h) h.head.factor (omega (arith, w.factor.low));
     }

@@ -5,3 +5,4 @@ pub mod Totals
 pub mod Accuracy
 pub mod Figures
 pub mod Tenths
+pub mod Boards

@@ -8,12 +8,15 @@ use Rattle.record.specs.declared.Mode.{Mode}
 use Rattle.record.specs.declared.Mode.TheVariants.{Trimmed, Voided, Partial}
 use Rattle.record.specs.declared.Cell.{Cell}
 use Rattle.record.specs.declared.Cell.TheVariants.{Void}
+use Rattle.record.specs.declared.Slack.{Slack}
+use Rattle.record.specs.declared.Slack.TheVariants.{Undivided, Split}
 use Rattle.record.specs.declared.Part.{Part}
 use Rattle.record.specs.declared.Hold.{Hold}
 use Rattle.record.specs.Filler.{no_part}
 use Rattle.record.specs.Held.{cell_width, cell_lip, cells_of, parts_of}
 use Rattle.cells.specs.Figures.{RoundedUp, RoundedDown, CellArea, MostHeld}
 use Rattle.slack.specs.Exact.{DeckMoment}
+use Rattle.boards.specs.Exact.{SplitVolume}
 
 -- f 0 + f 1 + .. + f (n − 1)
 unfoldable pub total : ℕ → (ℕ → ℕ) → ℕ
@@ -99,12 +102,28 @@ pub record SectionMoment (cs : List Cell) (m : ℕ) : Type 0 where
 
 -- ---- Partly filled, and the sum
 
--- the section moment m of a part: of cells as above; of `partial` by the shape in which void and grain lie under the deck (document 02,
--- P3; slack/specs/Exact.antt)
-abbrev pub PartSection : Mode → Part → ℕ → Type 0
-PartSection Trimmed p m = SectionMoment (cells_of p) m
-PartSection Voided p m = SectionMoment (cells_of p) m
-PartSection Partial p m = DeckMoment p.breadth p.void p.grain m
+-- v is the section moment of these cells × LENGTH, in mm⁴
+pub record SectionVolume (p : Part) (v : ℕ) : Type 0 where
+  pub moment : ℕ
+  pub section : SectionMoment (cells_of p) moment
+  pub volume : v ≡ moment * p.length
+
+-- the same of a section from side to side, by the shape in which void and grain lie under the deck (document 02, P3; slack/specs/Exact.antt)
+pub record DeckVolume (length breadth void grain v : ℕ) : Type 0 where
+  pub moment : ℕ
+  pub section : DeckMoment breadth void grain moment
+  pub volume : v ≡ moment * length
+
+-- of a partly filled part: so, or with a board along some of LENGTH (document 02, P7; boards/specs/Exact.antt)
+abbrev pub SlackVolume : ℕ → Slack → ℕ → Type 0
+SlackVolume length (Undivided breadth void grain) v = DeckVolume length breadth void grain v
+SlackVolume length (Split run left right) v = SplitVolume length run left right v
+
+-- of any part
+abbrev pub PartVolume : Mode → Part → ℕ → Type 0
+PartVolume Trimmed p v = SectionVolume p v
+PartVolume Voided p v = SectionVolume p v
+PartVolume Partial p v = SlackVolume p.length p.slack v
 
 -- the i-th part of a hold
 abbrev pub part : Hold → ℕ → Part
@@ -125,13 +144,14 @@ percent Trimmed = 100
 percent Voided = 106
 percent Partial = 112
 
--- w is the weight moment of a hold, in kg·m: a part is section moment × LENGTH, rounded up to thousandths of m⁴ (10⁹ mm⁴ each); a hold is
--- the sum of its parts × its percentage, rounded up; its weight moment is 10,000 × that/SF, rounded up
+-- w is the weight moment of a hold, in kg·m: a part is section moment × LENGTH, or the sum over its two stretches, rounded up once to
+-- thousandths of m⁴ (10⁹ mm⁴ each); a hold is the sum of its parts × its percentage, rounded up; its weight moment is 10,000 × that/SF,
+-- rounded up
 pub record WeightMoment (h : Hold) (w : ℕ) : Type 0 where
-  pub sections : ℕ → ℕ
+  pub volumes : ℕ → ℕ
   pub parts : ℕ → ℕ
   pub moment : ℕ
-  pub section : (i : ℕ) → i < length (parts_of h) → PartSection h.head.mode (part h i) (sections i)
-  pub rounded : (i : ℕ) → i < length (parts_of h) → RoundedUp (sections i * (part h i).length) 1000000000 (parts i)
+  pub volume : (i : ℕ) → i < length (parts_of h) → PartVolume h.head.mode (part h i) (volumes i)
+  pub rounded : (i : ℕ) → i < length (parts_of h) → RoundedUp (volumes i) 1000000000 (parts i)
   pub hold : RoundedUp (percent h.head.mode * total (length (parts_of h)) parts) 100 moment
   pub weight : RoundedUp (10000 * moment) h.head.factor w

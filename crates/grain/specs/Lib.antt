@@ -5,3 +5,4 @@ pub mod Slack
 pub mod Sum
 pub mod Walk
 pub mod Tenths
+pub mod Boards

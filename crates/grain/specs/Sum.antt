@@ -11,17 +11,16 @@ use Rattle.limits.specs.Limits.{hold_limits}
 use Rattle.grain.specs.declared.NotWeighed.{NotWeighed}
 use Rattle.grain.specs.declared.NotWeighed.TheVariants.{Limits, NoFit}
 use Rattle.grain.specs.Section.{section_moment, fits}
-use Rattle.grain.specs.Slack.{slack_moment}
-
--- the section moment of a part, in mm³
-abbrev pub part_section : Mode → Part → ℕ
-part_section Trimmed p = section_moment (cells_of p)
-part_section Voided p = section_moment (cells_of p)
-part_section Partial p = slack_moment p
+use Rattle.grain.specs.Slack.{slack_volume}
 
 -- section moment × LENGTH, in mm⁴
+abbrev pub section_volume : Part → ℕ
+section_volume p = section_moment (cells_of p) * p.length
+
 abbrev pub part_volume : Mode → Part → ℕ
-part_volume mode p = part_section mode p * p.length
+part_volume Trimmed p = section_volume p
+part_volume Voided p = section_volume p
+part_volume Partial p = slack_volume p
 
 -- a part: that, rounded up to thousandths of m⁴ (10⁹ mm⁴ each)
 unfoldable pub part_moment : Mode → Part → ℕ

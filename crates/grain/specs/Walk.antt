@@ -5,10 +5,11 @@ use Rattle.record.specs.declared.Cell.{Cell}
 use Rattle.whole.specs.Lists.{all, sum_of}
 use Rattle.record.specs.declared.Mode.{Mode}
 use Rattle.record.specs.declared.Part.{Part}
+use Rattle.record.specs.Held.{cells_of}
 use Rattle.cells.specs.declared.CellSizes.{CellSizes}
 use Rattle.grain.specs.declared.Sums.{Sums}
 use Rattle.grain.specs.Section.{kept, first_moment, fits, section_moment}
-use Rattle.grain.specs.Sum.{part_fits, part_section, part_moment}
+use Rattle.grain.specs.Sum.{part_fits, section_volume, part_volume, part_moment}
 
 -- the sums with a cell that keeps the area a and leaves the excess e
 unfoldable pub with_kept : Sums → CellSizes → (a e : ℕ) → Sums
@@ -48,9 +49,12 @@ pub record SumsFit (s : Sums) (z : CellSizes) : Type 0 where
   pub first : s.first ≤ 2 ^ 60
   pub old : s.old ≤ 2 ^ 60
 
--- the answer of a part, in mm³ and in thousandths of m⁴, and of all parts of a hold together
-unfoldable pub part_section_answer : Mode → Part → Option ℕ
-part_section_answer mode p = cond (part_fits mode p) (Some (part_section mode p)) None
+-- the answer of a part of cells and of any part, in mm⁴; of any part in thousandths of m⁴; and of all parts of a hold together
+unfoldable pub section_volume_answer : Part → Option ℕ
+section_volume_answer p = cond (fits (cells_of p)) (Some (section_volume p)) None
+
+unfoldable pub part_volume_answer : Mode → Part → Option ℕ
+part_volume_answer mode p = cond (part_fits mode p) (Some (part_volume mode p)) None
 
 unfoldable pub part_answer : Mode → Part → Option ℕ
 part_answer mode p = cond (part_fits mode p) (Some (part_moment mode p)) None

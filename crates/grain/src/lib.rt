@@ -4,15 +4,15 @@
 ghost use Rattle.std.specs.Prelude.{◌≡◌, true, length, ◌+◌, ◌/◌, ◌<◌, ◌≤◌, ◌^◌};
 ghost use Rattle.whole.specs.Lists.{all};
 ghost use Rattle.record.specs.Held.{cells_of};
-ghost use Rattle.limits.specs.Limits.{section_limits, part_limits, hold_limits};
+ghost use Rattle.limits.specs.Limits.{section_limits, slack_limits, part_limits, hold_limits};
 ghost use Rattle.grain.specs.Section.{kept, first_moment};
-ghost use Rattle.grain.specs.Walk.{SumsFit, with_kept, inner_cell, last_cell, last_answer, section_answer, part_section_answer, part_answer, parts_answer};
-ghost use Rattle.grain.specs.Slack.{slack_moment};
+ghost use Rattle.grain.specs.Walk.{SumsFit, with_kept, inner_cell, last_cell, last_answer, section_answer, section_volume_answer, part_volume_answer, part_answer, parts_answer};
+ghost use Rattle.grain.specs.Slack.{slack_volume};
 ghost use Rattle.grain.specs.Within.{SectionWithin};
 ghost use Rattle.grain.specs.Sum.{percentage, weighed_of};
 
 use cells::{CellSizes, SLOPE_15};
-use record::{Cell, Hold, Mode, Part};
+use record::{Cell, Hold, Mode, Part, Slack};
 
 // Sums along a section up to x, the low boundary of the next cell: the excess so far, the kept areas' moment about the low
 // end, their first moments, and twice the old areas' moment.
@@ -107,34 +107,52 @@ fn section(cells: &[Cell]) -> Option<u64>
     last_cell(s, cells::sizes_of(cells[last]))
 }
 
-// The section moment of a partly filled part.
-#[tactic(auto, unfolding(crate::specs::Slack::slack_moment))]
-fn slack_moment(p: Part) -> u64
-    ensures { result ≡ slack_moment p }
+// A partly filled part, in mm⁴: section moment × length, or beside a board the sum over its two stretches.
+#[tactic(auto, unfolding(crate::specs::Slack::slack_volume), using(crate::proofs::Weights::deck_fits, crate::proofs::Weights::board_fits))]
+fn slack_volume(p: Part) -> u64
+    requires { slack_limits p ≡ true }
+    ensures { result ≡ slack_volume p }
 {
-    slack::section_moment(p.breadth, p.void, p.grain)
+    match p.slack {
+        Slack::Undivided {
+            breadth,
+            void,
+            grain,
+        } => slack::section_moment(breadth, void, grain) * p.length as u64,
+        Slack::Split { run, left, right } => boards::split_volume(p.length, run, left, right),
+    }
 }
 
-// The section moment of a part, by the hold's mode.
-#[tactic(auto, unfolding(crate::specs::Walk::part_section_answer, crate::specs::Walk::section_answer), using(crate::proofs::Walks::part_section_within, crate::proofs::Walks::few_cells))]
-fn part_section(mode: Mode, p: Part) -> Option<u64>
+// Section moment × length of a part of cells, in mm⁴, or that a void does not fit.
+#[tactic(auto, unfolding(crate::specs::Walk::section_volume_answer, crate::specs::Walk::section_answer), using(crate::proofs::Walks::part_section_within, crate::proofs::Walks::few_cells, crate::proofs::Weights::cells_fit))]
+fn section_volume(p: Part) -> Option<u64>
+    requires { section_limits p ≡ true }
+    ensures { result ≡ section_volume_answer p }
+{
+    let moment = section(p.own_cells())?;
+    Some(moment * p.length as u64)
+}
+
+// The same of a part, by the hold's mode.
+#[tactic(auto, unfolding(crate::specs::Walk::part_volume_answer, crate::specs::Walk::section_volume_answer))]
+fn part_volume(mode: Mode, p: Part) -> Option<u64>
     requires { part_limits mode p ≡ true }
-    ensures { result ≡ part_section_answer mode p }
+    ensures { result ≡ part_volume_answer mode p }
 {
     match mode {
-        Mode::Trimmed | Mode::Voided => section(p.own_cells()),
-        Mode::Partial => Some(slack_moment(p)),
+        Mode::Trimmed | Mode::Voided => section_volume(p),
+        Mode::Partial => Some(slack_volume(p)),
     }
 }
 
 // A part, in thousandths of a metre to the fourth power.
-#[tactic(auto, unfolding(crate::specs::Walk::part_answer, crate::specs::Walk::part_section_answer, crate::specs::Sum::part_moment), using(crate::proofs::Weights::part_le))]
+#[tactic(auto, unfolding(crate::specs::Walk::part_answer, crate::specs::Walk::part_volume_answer, crate::specs::Sum::part_moment))]
 fn part_moment(mode: Mode, p: Part) -> Option<u64>
     requires { part_limits mode p ≡ true }
     ensures { result ≡ part_answer mode p }
 {
-    let moment = part_section(mode, p)?;
-    Some((moment * p.length as u64).div_ceil(1000000000))
+    let volume = part_volume(mode, p)?;
+    Some(volume.div_ceil(1000000000))
 }
 
 // The parts of a hold, added up: by a loop. Of a sum of `Option`s it did not prove that each part that its closure takes is within its limits.

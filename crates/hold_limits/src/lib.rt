@@ -5,9 +5,9 @@ ghost use Rattle.std.specs.Prelude.{◌≡◌, ◌≤◌, length, sum_by};
 ghost use Rattle.std.specs.List.{list_all};
 ghost use Rattle.whole.specs.Lists.{within};
 ghost use Rattle.record.specs.Held.{cell_width};
-ghost use Rattle.limits.specs.Limits.{cell_limits, section_limits, slack_limits, part_limits, hold_limits};
+ghost use Rattle.limits.specs.Limits.{cell_limits, section_limits, undivided_limits, split_limits, size_limits, slack_limits, part_limits, hold_limits};
 
-use record::{Cell, Hold, Mode, Part};
+use record::{Cell, Hold, Mode, Part, Slack};
 
 #[tactic(auto, unfolding(whole::specs::Lists::within, limits::specs::Limits::cell_limits))]
 fn cell_limits(cell: Cell) -> bool
@@ -83,15 +83,42 @@ fn section_limits(p: Part) -> bool
         && width_together(cells) <= 40000
 }
 
+// The sizes of a section from side to side.
+#[tactic(auto, unfolding(whole::specs::Lists::within))]
+fn undivided_limits(breadth: u16, void: u16, grain: u16) -> bool
+    ensures { result ≡ undivided_limits breadth void grain }
+{
+    (1..=40000).contains(&breadth) && (1..=30000).contains(&void) && (1..=30000).contains(&grain)
+}
+
+// The sizes beside a board. The breadths are added in 32 bits: 16 bits do not hold every two of them together.
+#[tactic(auto, unfolding(whole::specs::Lists::within))]
+fn split_limits(length: u16, run: u16, left: u16, right: u16) -> bool
+    ensures { result ≡ split_limits length run left right }
+{
+    (1..=length).contains(&run) && 1 <= left && 1 <= right && left as u32 + right as u32 <= 40000
+}
+
+// The sizes of a partly filled part of this length.
+fn size_limits(length: u16, slack: Slack) -> bool
+    ensures { result ≡ size_limits length slack }
+{
+    match slack {
+        Slack::Undivided {
+            breadth,
+            void,
+            grain,
+        } => undivided_limits(breadth, void, grain),
+        Slack::Split { run, left, right } => split_limits(length, run, left, right),
+    }
+}
+
 // A part of a partly filled hold.
-#[tactic(auto, unfolding(whole::specs::Lists::within, limits::specs::Limits::slack_limits))]
+#[tactic(auto, unfolding(limits::specs::Limits::slack_limits))]
 fn slack_limits(p: Part) -> bool
     ensures { result ≡ slack_limits p }
 {
-    is_length(p.length)
-        && (1..=40000).contains(&p.breadth)
-        && (1..=30000).contains(&p.void)
-        && (1..=30000).contains(&p.grain)
+    is_length(p.length) && size_limits(p.length, p.slack)
 }
 
 fn part_limits(mode: Mode, p: Part) -> bool

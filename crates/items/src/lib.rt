@@ -56,7 +56,7 @@ pub fn number(s: &[u8]) -> Read<'_, u32>
     Some((v, rest))
 }
 
-// A number above 65,535 is carried as 65,535, which is above every limit too. `u16::try_from(v).unwrap_or(u16::MAX)` is as long and the same.
+// A number above 65,535 is carried as 65,535, which is above every limit of one number too. `u16::try_from(v).unwrap_or(u16::MAX)` is as long and the same.
 fn as_field(v: u32) -> u16
     ensures { result ≡ carried v }
 {

@@ -2,7 +2,7 @@
 use mathlib.Core.Path.{◌≡◌}
 use mathlib.Core.Bool.{true, ◌&&◌}
 use mathlib.Core.Logic.{◌↔◌}
-use Prim.Native.Nat.{ℕ, ◌≤◌}
+use Prim.Native.Nat.{ℕ, ◌+◌, ◌≤◌}
 use native.Mathlib.Omega.{arith}
 use lib.Dec.{leb, eqb}
 use lib.ListN.{get_or}
@@ -18,14 +18,16 @@ use Rattle.record.specs.declared.Mode.{Mode}
 use Rattle.record.specs.declared.Mode.TheVariants.{Trimmed, Voided, Partial}
 use Rattle.record.specs.declared.Cell.{Cell}
 use Rattle.record.specs.declared.Cell.TheVariants.{Wing, Hatch, Void}
+use Rattle.record.specs.declared.Slack.{Slack}
+use Rattle.record.specs.declared.Slack.TheVariants.{Undivided, Split}
 use Rattle.record.specs.declared.Part.{Part}
 use Rattle.record.specs.declared.Hold.{Hold}
 use Rattle.record.specs.declared.WeightItem.{WeightItem}
 use Rattle.record.specs.Filler.{no_part}
 use Rattle.record.specs.Held.{cell_width, cells_of, parts_of}
 use Rattle.record.specs.Held.{edge}
-use Rattle.limits.specs.Limits.{ship_limits, displacement, rise, load_limits, column_limits, cell_limits, section_limits, slack_limits, part_limits, hold_limits, place_limits, item_limits}
-use Rattle.limits.specs.Ranges.{EdgeRange, ShipRange, LoadRange, ColumnRange, CellRange, SectionRange, SlackRange, PartRange, HoldRange, PlaceRange, ItemRange, RiseRange}
+use Rattle.limits.specs.Limits.{ship_limits, displacement, rise, load_limits, column_limits, cell_limits, section_limits, size_limits, slack_limits, part_limits, hold_limits, place_limits, item_limits}
+use Rattle.limits.specs.Ranges.{EdgeRange, ShipRange, LoadRange, ColumnRange, CellRange, SectionRange, SizeRange, SlackRange, PartRange, HoldRange, PlaceRange, ItemRange, RiseRange}
 
 -- ---- ship
 edge_range : (r : Rule) → (within 1 9000 (edge r) ≡ true) ↔ EdgeRange r
@@ -115,19 +117,32 @@ section_range p = (
       ),
 )
 
+size_range : (length : ℕ) (s : Slack) → (size_limits length s ≡ true) ↔ SizeRange length s
+size_range length (Undivided breadth void grain) = (
+  λ e. let t = and_true (within 1 40000 breadth && within 1 30000 void) (within 1 30000 grain) e in
+      let u = and_true (within 1 40000 breadth) (within 1 30000 void) t.0 in
+      let b = within_true 1 40000 breadth u.0 in
+      let v = within_true 1 30000 void u.1 in
+      let g = within_true 1 30000 grain t.1 in
+      (b.low, b.high, v.low, v.high, g.low, g.high),
+  λ (a, b, c, d, f, g). rw (within_by 1 40000 breadth a b, within_by 1 30000 void c d, within_by 1 30000 grain f g),
+)
+size_range length (Split run left right) = (
+  λ e. let t = and_true _ (leb (left + right) 40000) e in
+      let u = and_true _ (leb 1 right) t.0 in
+      let v = and_true _ (leb 1 left) u.0 in
+      let r = within_true _ _ run v.0 in
+      (r.low, omega (arith, r.high), leb-true 1 left v.1, leb-true 1 right u.1, leb-true (left + right) 40000 t.1),
+  λ (a, b, c, d, f). rw (within_by 1 length run a b, le-leb 1 left c, le-leb 1 right d, le-leb (left + right) 40000 f),
+)
+
 pub slack_range : (p : Part) → (slack_limits p ≡ true) ↔ SlackRange p
 unfolding slack_limits
 slack_range p = (
-  λ e. let t = and_true (within 1 60000 p.length && within 1 40000 p.breadth && within 1 30000 p.void) (within 1 30000 p.grain) e in
-      let u = and_true (within 1 60000 p.length && within 1 40000 p.breadth) (within 1 30000 p.void) t.0 in
-      let v = and_true (within 1 60000 p.length) (within 1 40000 p.breadth) u.0 in
-      let l = within_true 1 60000 p.length v.0 in
-      let b = within_true 1 40000 p.breadth v.1 in
-      let w = within_true 1 30000 p.void u.1 in
-      let g = within_true 1 30000 p.grain t.1 in
-      (l.low, l.high, b.low, b.high, w.low, w.high, g.low, g.high),
-  λ (a, b, c, d, f, g, h, i).
-      rw (within_by 1 60000 p.length a b, within_by 1 40000 p.breadth c d, within_by 1 30000 p.void f g, within_by 1 30000 p.grain h i),
+  λ e. let t = and_true (within 1 60000 p.length) (size_limits p.length p.slack) e in
+      let l = within_true 1 60000 p.length t.0 in
+      (l.low, l.high, (size_range p.length p.slack).0 t.1),
+  λ (a, b, r). rw (within_by 1 60000 p.length a b, (size_range p.length p.slack).1 r),
 )
 
 part_range : (mode : Mode) (p : Part) → (part_limits mode p ≡ true) ↔ PartRange mode p

@@ -1,5 +1,5 @@
--- Document 01, Lines of the panel, and document 02, P5: the limits of each record's numbers. A number outside them is code 20.
-use Rattle.std.specs.Prelude.{Bool, ◌&&◌, ℕ, leb, eqb, get_or}
+-- Document 01, Lines of the panel, and document 02, P5 and P7: the limits of each record's numbers. A number outside them is code 20.
+use Rattle.std.specs.Prelude.{Bool, ◌&&◌, ℕ, ◌+◌, leb, eqb, get_or}
 use Rattle.whole.specs.Lists.{within, all, sum_of}
 use Rattle.record.specs.declared.Ship.{Ship}
 use Rattle.record.specs.declared.Load.{Load}
@@ -8,6 +8,8 @@ use Rattle.record.specs.declared.Mode.{Mode}
 use Rattle.record.specs.declared.Mode.TheVariants.{Trimmed, Voided, Partial}
 use Rattle.record.specs.declared.Cell.{Cell}
 use Rattle.record.specs.declared.Cell.TheVariants.{Wing, Hatch, Void}
+use Rattle.record.specs.declared.Slack.{Slack}
+use Rattle.record.specs.declared.Slack.TheVariants.{Undivided, Split}
 use Rattle.record.specs.declared.Part.{Part}
 use Rattle.record.specs.declared.Hold.{Hold}
 use Rattle.record.specs.declared.WeightItem.{WeightItem}
@@ -45,10 +47,21 @@ unfoldable pub section_limits : Part → Bool
 section_limits p =
     within 1 8 p.count && (within 1 60000 p.length && all cell_limits (cells_of p) && leb (sum_of cell_width (cells_of p)) 40000)
 
--- a part of `partial`: LENGTH 1 to 60,000; BREADTH 1 to 40,000; VOID and GRAIN 1 to 30,000
+-- the sizes of a section from side to side: BREADTH 1 to 40,000; VOID and GRAIN 1 to 30,000
+abbrev pub undivided_limits : (b v g : ℕ) → Bool
+undivided_limits b v g = within 1 40000 b && within 1 30000 v && within 1 30000 g
+
+-- beside a board: RUN at least 1 and at most LENGTH; LEFT and RIGHT at least 1, LEFT + RIGHT at most 40,000
+abbrev pub split_limits : (length run l r : ℕ) → Bool
+split_limits length run l r = within 1 length run && leb 1 l && leb 1 r && leb (l + r) 40000
+
+abbrev pub size_limits : ℕ → Slack → Bool
+size_limits length (Undivided b v g) = undivided_limits b v g
+size_limits length (Split run l r) = split_limits length run l r
+
+-- a part of `partial`: LENGTH 1 to 60,000, and its sizes
 unfoldable pub slack_limits : Part → Bool
-slack_limits p =
-    within 1 60000 p.length && within 1 40000 p.breadth && within 1 30000 p.void && within 1 30000 p.grain
+slack_limits p = within 1 60000 p.length && size_limits p.length p.slack
 
 -- a part, by the hold's mode
 abbrev pub part_limits : Mode → Part → Bool

@@ -1,6 +1,6 @@
--- Document 01, Lines of the panel, and document 02, P5, in their own numbers and of the records' fields: when a record is within its limits. Nothing here rests
+-- Document 01, Lines of the panel, and document 02, P5 and P7, in their own numbers and of the records' fields: when a record is within its limits. Nothing here rests
 -- on the tests by which the program is proved; proofs/Ranges.antt shows that those pass exactly there.
-use Rattle.std.specs.Prelude.{◌≡◌, ℕ, ◌≤◌, ◌<◌, length, get_or}
+use Rattle.std.specs.Prelude.{◌≡◌, ℕ, ◌+◌, ◌≤◌, ◌<◌, length, get_or}
 use Rattle.whole.specs.Lists.{sum_of}
 use Rattle.record.specs.declared.Rule.{Rule}
 use Rattle.record.specs.declared.Rule.TheVariants.{New, Old}
@@ -11,6 +11,8 @@ use Rattle.record.specs.declared.Mode.{Mode}
 use Rattle.record.specs.declared.Mode.TheVariants.{Trimmed, Voided, Partial}
 use Rattle.record.specs.declared.Cell.{Cell}
 use Rattle.record.specs.declared.Cell.TheVariants.{Wing, Hatch, Void}
+use Rattle.record.specs.declared.Slack.{Slack}
+use Rattle.record.specs.declared.Slack.TheVariants.{Undivided, Split}
 use Rattle.record.specs.declared.Part.{Part}
 use Rattle.record.specs.declared.Hold.{Hold}
 use Rattle.record.specs.declared.WeightItem.{WeightItem}
@@ -47,11 +49,14 @@ SectionRange p =
     (1 ≤ p.count) × (p.count ≤ 8) × (1 ≤ p.length) × (p.length ≤ 60000)
     × ((i : ℕ) → i < length (cells_of p) → CellRange (get_or (cells_of p) i (Void 0 0 0))) × (sum_of cell_width (cells_of p) ≤ 40000)
 
--- `(part LENGTH BREADTH VOID GRAIN)`
+-- `(part LENGTH BREADTH VOID GRAIN)`, `(split LENGTH RUN LEFT RIGHT)`
+abbrev pub SizeRange : ℕ → Slack → Type 0
+SizeRange length (Undivided breadth void grain) =
+    (1 ≤ breadth) × (breadth ≤ 40000) × (1 ≤ void) × (void ≤ 30000) × (1 ≤ grain) × (grain ≤ 30000)
+SizeRange length (Split run left right) = (1 ≤ run) × (run ≤ length) × (1 ≤ left) × (1 ≤ right) × (left + right ≤ 40000)
+
 abbrev pub SlackRange : Part → Type 0
-SlackRange p =
-    (1 ≤ p.length) × (p.length ≤ 60000) × (1 ≤ p.breadth) × (p.breadth ≤ 40000) × (1 ≤ p.void) × (p.void ≤ 30000)
-    × (1 ≤ p.grain) × (p.grain ≤ 30000)
+SlackRange p = (1 ≤ p.length) × (p.length ≤ 60000) × SizeRange p.length p.slack
 
 abbrev pub PartRange : Mode → Part → Type 0
 PartRange Trimmed p = SectionRange p

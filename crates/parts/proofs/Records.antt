@@ -7,17 +7,17 @@ use lib.ListN.{length, take, drop, replicate, length-map, take-append-drop}
 use lib.Seq.{length-take-le}
 use Rattle.std.proofs.lemmas.List.{drop-replicate}
 use Rattle.record.specs.declared.Cell.{Cell}
-use Rattle.record.specs.Filler.{no_cell, padded}
+use Rattle.record.specs.Filler.{no_cell, no_slack, padded}
 use Rattle.std.specs.Prelude.{Some}
 use Rattle.std.specs.Borrow.{Bor}
 use Rattle.text.specs.Token.{Token, tokens}
-use Rattle.items.specs.Grammar.{got, none, head?, number?, nth, last_numbers?, several?}
+use Rattle.items.specs.Grammar.{got, none, head?, number?, last_numbers?, several?}
 use Rattle.items.specs.Carried.{carry, carried}
 use Rattle.items.specs.Reads.{Fills}
 use Rattle.items.proofs.Walks.{carries, built, nth_kept, kept, several_built, several_unbuilt}
 use Rattle.parts.specs.declared.CellWord.{CellWord}
 use Rattle.parts.specs.declared.CellWord.TheVariants.{WingWord, HatchWord, VoidWord}
-use Rattle.parts.specs.Shape.{cell_named, numbers_of, cell_of, cell?, section_record, section?, slack_record}
+use Rattle.parts.specs.Shape.{cell_named, numbers_of, cell_of, cell?, section_record, section?, slack_record, slack?, split_record, split?}
 use Rattle.parts.specs.Carried.{carried_cell, carried_part}
 
 -- a cell of the numbers read, as it is carried
@@ -47,7 +47,7 @@ filled most d n xs h l e = (length-take-le n xs (omega arith), sym (take-append-
 
 -- a part of cells, as it is carried
 pub section_kept : (v : ℕ) (xs : List Cell) → carried_part (section_record v xs) ≡
-    record { length = carried v; breadth = 0; void = 0; grain = 0; count = length xs; cells = padded 8 no_cell (map carried_cell xs) }
+    record { length = carried v; slack = no_slack; count = length xs; cells = padded 8 no_cell (map carried_cell xs) }
 section_kept v xs = rw (map_padded carried_cell 8 no_cell xs)
 
 module _ (ts : List Token) (v : ℕ) (us : List Token) (long : carry carried (number? ts) ≡ got v us) where
@@ -57,14 +57,26 @@ module _ (ts : List Token) (v : ℕ) (us : List Token) (long : carry carried (nu
       rw i.is (several_unbuilt carried_cell cell? carried_part (section_record i.read) 8 us e)
 
   pub section_read : (n : ℕ) (cells : List Cell) (ws : Bor (List ℕ)) → n ≤ 8 → length cells ≡ 8 → Fills (several? 8 (kept carried_cell cell?) us) (replicate 8 no_cell) cells (Some (n, ws)) →
-      carry carried_part (section? ts) ≡ got (record { length = v; breadth = 0; void = 0; grain = 0; count = n; cells = cells }) (tokens ws.now)
+      carry carried_part (section? ts) ≡ got (record { length = v; slack = no_slack; count = n; cells = cells }) (tokens ws.now)
   section_read n cells ws h l e =
       let i = carries carried (number? ts) v us long in
       let front = filled 8 no_cell n cells h l e.1 in
       rw i.is (several_built carried_cell cell? carried_part (section_record i.read) 8 us (take n cells) (tokens ws.now) _ e.0
       (λ xs m. section_kept i.read xs ∙ rw (← i.kept, ← length-map xs carried_cell, ← m, front.0, ← front.1)))
 
-pub slack_kept : (v : List ℕ) → carried_part (slack_record v) ≡
-    record { length = carried (nth v 0); breadth = carried (nth v 1); void = carried (nth v 2); grain = carried (nth v 3); count = 0; cells = replicate 8 no_cell }
-unfolding padded
-slack_kept v = refl
+-- a part of the four sizes read, as it is carried
+module _ (vs x : List ℕ) (e : vs ≡ map carried x) where
+  slack_kept : carried_part (slack_record x) ≡ slack_record vs
+  unfolding padded
+  slack_kept = rw (nth_kept vs x 0 e, nth_kept vs x 1 e, nth_kept vs x 2 e, nth_kept vs x 3 e)
+
+  split_kept : carried_part (split_record x) ≡ split_record vs
+  unfolding padded
+  split_kept = rw (nth_kept vs x 0 e, nth_kept vs x 1 e, nth_kept vs x 2 e, nth_kept vs x 3 e)
+
+module _ (ts : List Token) (vs : List ℕ) (us : List Token) (e : carry (map carried) (last_numbers? 4 ts) ≡ got vs us) where
+  pub slack_read : carry carried_part (slack? ts) ≡ got (slack_record vs) us
+  slack_read = built carried_part slack_record (map carried) (last_numbers? 4 ts) vs us (slack_record vs) e (slack_kept vs)
+
+  pub split_read : carry carried_part (split? ts) ≡ got (split_record vs) us
+  split_read = built carried_part split_record (map carried) (last_numbers? 4 ts) vs us (split_record vs) e (split_kept vs)

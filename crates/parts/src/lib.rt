@@ -5,10 +5,10 @@ ghost use Rattle.std.specs.Prelude.{◌≡◌};
 ghost use Rattle.text.specs.Token.{tokens};
 ghost use Rattle.items.specs.Carried.{carry};
 ghost use Rattle.items.specs.Reads.{read_of};
-ghost use Rattle.parts.specs.Shape.{cell_named, cell?, section?, slack?, body?, part?};
+ghost use Rattle.parts.specs.Shape.{cell_named, cell?, part_named, section?, slack?, split?, body?, part?};
 ghost use Rattle.parts.specs.Carried.{carried_cell, carried_part};
 
-use record::{Cell, Mode, Part};
+use record::{Cell, Mode, Part, Slack};
 use text::Read;
 
 // The word of a cell, apart from the sizes behind it, as document 01's shapes have it. A table of words and functions that read on would hand out a
@@ -18,6 +18,13 @@ pub enum CellWord {
     WingWord,
     HatchWord,
     VoidWord,
+}
+
+// The word of a part, apart from what stands behind it, as that of a cell.
+#[derive(Clone, Copy, Debug, PartialEq, Eq)]
+pub enum PartWord {
+    PlainWord,
+    SplitWord,
 }
 
 // ---- cells
@@ -72,6 +79,19 @@ fn cell(s: &[u8]) -> Read<'_, Cell>
 
 // ---- parts
 
+// The words of parts.
+const PARTS: [(&[u8], PartWord); 2] = [
+    (b"part", PartWord::PlainWord),
+    (b"split", PartWord::SplitWord),
+];
+
+#[tactic(auto, unfolding(items::specs::Grammar::named, items::specs::Reads::found))]
+fn part_named(word: &[u8]) -> Option<PartWord>
+    ensures { result ≡ part_named word.now }
+{
+    items::named(&PARTS, word)
+}
+
 // `LENGTH CELL ..)`. The filler of a part has eight fillers of a cell.
 fn section(s: &[u8]) -> Read<'_, Part>
     ensures { carry carried_part (section? (tokens s.now)) ≡ read_of result }
@@ -85,27 +105,46 @@ fn section(s: &[u8]) -> Read<'_, Part>
 }
 
 // `LENGTH BREADTH VOID GRAIN)`
+#[tactic(auto, unfolding(record::specs::Filler::padded), using(crate::proofs::Records::slack_read))]
 fn slack(s: &[u8]) -> Read<'_, Part>
     ensures { carry carried_part (slack? (tokens s.now)) ≡ read_of result }
 {
     let ([length, breadth, void, grain], rest) = items::last_sizes::<4>(s)?;
     let part = Part {
         length,
-        breadth,
-        void,
-        grain,
+        slack: Slack::Undivided {
+            breadth,
+            void,
+            grain,
+        },
         ..record::no_part()
     };
     Some((part, rest))
 }
 
-// The parts go by the mode.
-fn body(mode: Mode, s: &[u8]) -> Read<'_, Part>
-    ensures { carry carried_part (body? mode (tokens s.now)) ≡ read_of result }
+// `LENGTH RUN LEFT RIGHT)`
+#[tactic(auto, unfolding(record::specs::Filler::padded), using(crate::proofs::Records::split_read))]
+fn split(s: &[u8]) -> Read<'_, Part>
+    ensures { carry carried_part (split? (tokens s.now)) ≡ read_of result }
 {
-    match mode {
-        Mode::Trimmed | Mode::Voided => section(s),
-        Mode::Partial => slack(s),
+    let ([length, run, left, right], rest) = items::last_sizes::<4>(s)?;
+    let part = Part {
+        length,
+        slack: Slack::Split { run, left, right },
+        ..record::no_part()
+    };
+    Some((part, rest))
+}
+
+// What stands behind a part's word goes by the mode; among cells there is no board.
+fn body(mode: Mode, word: PartWord, s: &[u8]) -> Read<'_, Part>
+    ensures { carry carried_part (body? mode word (tokens s.now)) ≡ read_of result }
+{
+    match (mode, word) {
+        (Mode::Trimmed | Mode::Voided, PartWord::PlainWord) => section(s),
+        (Mode::Trimmed | Mode::Voided, PartWord::SplitWord) => None,
+        (Mode::Partial, PartWord::PlainWord) => slack(s),
+        (Mode::Partial, PartWord::SplitWord) => split(s),
     }
 }
 
@@ -114,8 +153,5 @@ pub fn part(mode: Mode, s: &[u8]) -> Read<'_, Part>
     ensures { carry carried_part (part? mode (tokens s.now)) ≡ read_of result }
 {
     let (word, rest) = items::head(s)?;
-    if word == b"part".as_slice() {
-        return body(mode, rest);
-    }
-    None
+    body(mode, part_named(word)?, rest)
 }

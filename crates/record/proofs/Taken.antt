@@ -10,6 +10,7 @@ use Rattle.record.specs.declared.Part.{Part}
 use Rattle.record.specs.declared.Mode.TheVariants.{Trimmed}
 use Rattle.record.specs.declared.Hold.{Hold}
 use Rattle.record.specs.declared.Column.{Column}
+use Rattle.record.specs.Filler.{no_slack}
 use Rattle.record.specs.Held.{cells_of}
 
 -- what is read past the end of an array: zeros, the first variant, empty lists
@@ -17,7 +18,7 @@ abbrev pub past_cell : Cell
 past_cell = Wing 0 0 0 0
 
 abbrev pub past_part : Part
-past_part = record { length = 0; breadth = 0; void = 0; grain = 0; count = 0; cells = [] }
+past_part = record { length = 0; slack = no_slack; count = 0; cells = [] }
 
 abbrev pub past_hold : Hold
 past_hold = record { head = record { mode = Trimmed; factor = 0; count = 0 }; parts = [] }

@@ -3,6 +3,8 @@ use Rattle.std.specs.Prelude.{List, ◌++◌, ℕ, ◌-◌, length, replicate}
 use Rattle.record.specs.declared.Mode.TheVariants.{Trimmed}
 use Rattle.record.specs.declared.Cell.TheVariants.{Void}
 use Rattle.record.specs.declared.Cell.{Cell}
+use Rattle.record.specs.declared.Slack.{Slack}
+use Rattle.record.specs.declared.Slack.TheVariants.{Undivided}
 use Rattle.record.specs.declared.Part.{Part}
 use Rattle.record.specs.declared.Hold.{Hold}
 use Rattle.record.specs.declared.Column.{Column}
@@ -13,8 +15,12 @@ use Rattle.record.specs.declared.ItemSums.{ItemSums}
 abbrev pub no_cell : Cell
 no_cell = Void 0 0 0
 
+-- the sizes of a part of cells
+abbrev pub no_slack : Slack
+no_slack = Undivided 0 0 0
+
 abbrev pub no_part : Part
-no_part = record { length = 0; breadth = 0; void = 0; grain = 0; count = 0; cells = replicate 8 no_cell }
+no_part = record { length = 0; slack = no_slack; count = 0; cells = replicate 8 no_cell }
 
 -- a place where no hold is held
 abbrev pub no_hold : Hold

@@ -3,7 +3,7 @@
 
 ghost use Rattle.std.specs.Prelude.{◌≡◌};
 ghost use Rattle.record.specs.Held.{edge, cell_width, cell_lip, cells_of, parts_of, held};
-ghost use Rattle.record.specs.Filler.{no_cell, no_part, no_hold, no_column, no_columns, no_sums};
+ghost use Rattle.record.specs.Filler.{no_cell, no_slack, no_part, no_hold, no_column, no_columns, no_sums};
 
 // The rule that judges the ship, each with its edge, as document 01 has it: the angle of deck-edge immersion, in hundredths of a degree.
 #[derive(Clone, Copy)]
@@ -108,14 +108,20 @@ impl Cell {
     }
 }
 
+// The sizes of a partly filled part, in mm: of a section from side to side; or the run of a longitudinal board, and the breadths to the left
+// and to the right of it.
+#[derive(Clone, Copy)]
+pub enum Slack {
+    Undivided { breadth: u16, void: u16, grain: u16 },
+    Split { run: u16, left: u16, right: u16 },
+}
+
 // A part of a hold: a trimmed or voided one has cells, the first `count` of the eight places, fixed as those of columns; a partly filled one
-// has breadth, void and grain.
+// has the sizes of its slack.
 #[derive(Clone, Copy)]
 pub struct Part {
     pub length: u16,
-    pub breadth: u16,
-    pub void: u16,
-    pub grain: u16,
+    pub slack: Slack,
     pub count: u8,
     pub cells: [Cell; 8],
 }
@@ -185,15 +191,23 @@ fn no_cell() -> Cell
     }
 }
 
+fn no_slack() -> Slack
+    ensures { result ≡ no_slack }
+{
+    Slack::Undivided {
+        breadth: 0,
+        void: 0,
+        grain: 0,
+    }
+}
+
 pub fn no_part() -> Part
     ensures { result ≡ no_part }
 {
     let cells = [no_cell(); 8];
     Part {
         length: 0,
-        breadth: 0,
-        void: 0,
-        grain: 0,
+        slack: no_slack(),
         count: 0,
         cells,
     }

@@ -84,4 +84,4 @@ no_hold_sized (WeighingLine w) h = tt
 pub request_sized : (ts : List Token) (r : Request) → request_of ts ≡ Some r → Sized r
 request_sized =
     request_has Sized (λ m. Eight)
-    (part_yields (λ m. Eight) section_eight section_eight (λ v. padded_length no_cell 8 [] (omega arith))) hold_sized no_hold_sized
+    (part_yields (λ m. Eight) section_eight section_eight (λ n s. padded_length no_cell 8 [] (omega arith))) hold_sized no_hold_sized

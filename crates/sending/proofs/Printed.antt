@@ -15,6 +15,8 @@ use Rattle.record.specs.declared.Mode.{Mode}
 use Rattle.record.specs.declared.Mode.TheVariants.{Trimmed, Voided, Partial}
 use Rattle.record.specs.declared.Cell.{Cell}
 use Rattle.record.specs.declared.Cell.TheVariants.{Wing, Hatch, Void}
+use Rattle.record.specs.declared.Slack.{Slack}
+use Rattle.record.specs.declared.Slack.TheVariants.{Undivided, Split}
 use Rattle.record.specs.declared.Part.{Part}
 use Rattle.record.specs.declared.Hold.{Hold}
 use Rattle.record.specs.declared.WeightItem.{WeightItem}
@@ -22,19 +24,20 @@ use Rattle.record.specs.declared.Weighing.TheVariants.{Weight}
 use Rattle.record.specs.Held.{cells_of, parts_of}
 use Rattle.record.proofs.Taken.{cells_length}
 use Rattle.record.specs.Held.{edge}
-use Rattle.limits.specs.Ranges.{EdgeRange, ShipRange, LoadRange, ColumnRange, CellRange, SectionRange, ItemRange}
+use Rattle.limits.specs.Ranges.{EdgeRange, ShipRange, LoadRange, ColumnRange, CellRange, SectionRange, SizeRange, ItemRange}
 use Rattle.limits.proofs.Ranges.{hold_range, place_range}
 use Rattle.text.specs.Token.{Token, opened, closed, same}
 use Rattle.items.specs.Grammar.{Parsed, got, none, close?, named, number?, numbers?, last_numbers?, items?, several?}
 use Rattle.items.proofs.Yields.{Each, Several}
-use Rattle.parts.specs.Shape.{section_record, cell?, section?, body?, part?}
+use Rattle.parts.specs.declared.PartWord.TheVariants.{PlainWord}
+use Rattle.parts.specs.Shape.{section_record, slack_part, cell?, section?, body?, part?}
 use Rattle.std.specs.Prelude.{Some}
 use Rattle.forms.specs.declared.Request.TheVariants.{ShipLine, ColumnLine, LoadLine, HoldLine, WeighingLine}
 use Rattle.forms.specs.Shape.{mode_named}
-use Rattle.sending.specs.Printed.{word, number, numbers, form, each_form, rule_word, ship_tokens, load_tokens, column_tokens, cell_tokens, section_items, part_items, part_tokens, mode_word, hold_tokens, item_tokens}
+use Rattle.sending.specs.Printed.{word, number, numbers, form, each_form, rule_word, ship_tokens, load_tokens, column_tokens, cell_tokens, section_items, slack_tokens, part_tokens, mode_word, hold_tokens, item_tokens}
 use Rattle.sending.proofs.Decimals.{decimal_is_read_back}
 use Rattle.sending.proofs.Lines.{Fine, fine_none, fine_more, fine_token, fine_append, fine_brackets, fine_form, Small, fine_number, fine_numbers, Asks}
-use Rattle.sending.proofs.Numbers.{wing_numbers, slack_numbers}
+use Rattle.sending.proofs.Numbers.{wing_numbers, undivided_numbers, split_numbers}
 use Rattle.sending.proofs.Refilled.{refilled_part, refilled, GoodPart, GoodHold}
 
 pub each_from : {A : Type 0} (P : A → Type 0) (l : List A) (d : A) → ((i : ℕ) → i < length l → P (get_or l i d)) → Each P l
@@ -110,20 +113,27 @@ section_body p r n =
       λ us. rw (read_number p.length (each_form cell_tokens (cells_of p) ++ closed ∷ us) (omega arith), read_several cell? cell_tokens (λ c. c) 37 print_cell 8 (cells_of p) us cs, map-id (cells_of p)),
     )
 
-part_body_lem : (m : Mode) (p : Part) → GoodPart m p → Fine 303 (part_items m p) × ((us : List Token) → body? m (part_items m p ++ closed ∷ us) ≡ got (refilled_part m p) us)
-part_body_lem Trimmed p g = section_body p g.range g.places
-part_body_lem Voided p g = section_body p g.range g.places
-part_body_lem Partial p g =
-    let vs = slack_numbers p in
-    let r = g.range in
+print_section : (m : Mode) → ((us : List Token) → body? m PlainWord us ≡ section? us) → (p : Part) → SectionRange p → length p.cells ≡ 8 → Prints (part? m) (section_record p.length (cells_of p)) 312 (form "part" (section_items p))
+unfolding named same all within
+print_section m reads p r n =
+    let b = section_body p r n in
+    record { fine = fine_form "part" refl refl b.0; reads = λ us. rw (append_assoc (section_items p) (closed ∷ []) us, reads (section_items p ++ closed ∷ us), b.1 us); opens = λ us. refl }
+
+print_slack : (n : ℕ) (s : Slack) → n ≤ 60000 → SizeRange n s → Prints (part? Partial) (slack_part n s) 312 (slack_tokens n s)
+unfolding named same all within
+print_slack n (Undivided b v g) h r =
+    let vs : List ℕ = undivided_numbers n b v g in
     let s : Each Small vs = (omega arith, (omega arith, (omega arith, (omega arith, tt)))) in
-    (fine_more (omega arith) (fine_numbers vs s), λ us. rw (read_last vs us s))
+    record { fine = fine_more (omega arith) (fine_form "part" refl refl (fine_numbers vs s)); reads = λ us. rw (read_last vs us s); opens = λ us. refl }
+print_slack n (Split a left right) h r =
+    let vs : List ℕ = split_numbers n a left right in
+    let s : Each Small vs = (omega arith, (omega arith, (omega arith, (omega arith, tt)))) in
+    record { fine = fine_more (omega arith) (fine_form "split" refl refl (fine_numbers vs s)); reads = λ us. rw (read_last vs us s); opens = λ us. refl }
 
 print_part : (m : Mode) (p : Part) → GoodPart m p → Prints (part? m) (refilled_part m p) 312 (part_tokens m p)
-unfolding same all within
-print_part m p g =
-    let b = part_body_lem m p g in
-    record { fine = fine_form "part" refl refl b.0; reads = λ us. rw (append_assoc (part_items m p) (closed ∷ []) us, b.1 us); opens = λ us. refl }
+print_part Trimmed p g = print_section Trimmed (λ us. refl) p g.range g.places
+print_part Voided p g = print_section Voided (λ us. refl) p g.range g.places
+print_part Partial p g = print_slack p.length p.slack g.range.1 g.range.2
 
 -- ---- a hold
 mode_named_lem : (m : Mode) → mode_named (bytes (mode_word m)) ≡ Some m

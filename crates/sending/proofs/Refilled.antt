@@ -20,18 +20,17 @@ use Rattle.limits.proofs.Ranges.{hold_range}
 use Rattle.grain.specs.Sum.{part_fits, hold_fits}
 use Rattle.items.proofs.Kept.{same_all}
 use Rattle.items.proofs.Yields.{Each, Several}
-use Rattle.parts.specs.Shape.{section_record, slack_record}
+use Rattle.parts.specs.Shape.{section_record, slack_part}
 use Rattle.parts.proofs.Tidy.{padded_front, section_cells}
 use Rattle.forms.specs.Shape.{hold_record}
 use Rattle.condition.specs.Condition.{is_held}
 use Rattle.operations.proofs.Effects.{HoldPassed}
 use Rattle.sending.specs.Sending.{SamePart, SameHold}
-use Rattle.sending.proofs.Numbers.{slack_numbers}
 
 abbrev pub refilled_part : Mode → Part → Part
 refilled_part Trimmed p = section_record p.length (cells_of p)
 refilled_part Voided p = section_record p.length (cells_of p)
-refilled_part Partial p = slack_record (slack_numbers p)
+refilled_part Partial p = slack_part p.length p.slack
 
 abbrev pub refilled : Hold → Hold
 refilled h = hold_record h.head.mode h.head.factor (map (refilled_part h.head.mode) (parts_of h))
@@ -54,7 +53,7 @@ pub record GoodHold (n : ℕ) (h : Hold) : Type 0 where
 same_part : (m : Mode) (p : Part) → SamePart m p (refilled_part m p)
 same_part Trimmed p = (refl, section_cells p.length (cells_of p))
 same_part Voided p = (refl, section_cells p.length (cells_of p))
-same_part Partial p = (refl, refl, refl, refl)
+same_part Partial p = (refl, refl)
 
 module _ (n : ℕ) (h : Hold) where
   same_hold : GoodHold n h → SameHold h (refilled h)
@@ -91,9 +90,7 @@ section_range p r n =
 part_range : (m : Mode) (p : Part) → GoodPart m p → PartRange m (refilled_part m p)
 part_range Trimmed p g = section_range p g.range g.places
 part_range Voided p g = section_range p g.range g.places
-part_range Partial p g =
-    let r = g.range in
-    (omega arith, omega arith, omega arith, omega arith, omega arith, omega arith, omega arith, omega arith)
+part_range Partial p g = g.range
 
 mapped_at : {A B : Type 0} {P : A → Type 0} (Q : B → Type 0) (f : A → B) → ((x : A) → P x → Q (f x)) → (l : List A) (d : B) → Each P l → (i : ℕ) → i < length (map f l) → Q (get_or (map f l) i d)
 mapped_at Q f g [] d p i h = absurd (omega arith)

@@ -14,17 +14,17 @@ use Rattle.record.specs.declared.Hold.{Hold}
 use Rattle.record.specs.Filler.{no_part}
 use Rattle.record.specs.Held.{parts_of}
 use Rattle.grain.specs.Figures.{total}
-use Rattle.grain.specs.Slack.{slack_moment}
+use Rattle.grain.specs.Slack.{slack_volume}
 use Rattle.grain.specs.Sum.{part_moment, hold_moment, weight_moment}
 use Rattle.grain.proofs.Totals.{total_same, sum_total}
 use Rattle.grain.proofs.Weights.{nothing_weighs}
 use Rattle.sending.specs.Sending.{SamePart, SameHold}
 
 same_moment : (m : Mode) (p q : Part) → SamePart m p q → part_moment m q ≡ part_moment m p
-unfolding part_moment slack_moment
+unfolding part_moment slack_volume
 same_moment Trimmed p q s = rw (s.0, s.1)
 same_moment Voided p q s = rw (s.0, s.1)
-same_moment Partial p q s = rw (s.0, s.1, s.2, s.3)
+same_moment Partial p q s = rw (s.0, s.1)
 
 -- the parts that count, added up by place
 parts_sum : (m : Mode) (h : Hold) → h.head.count ≤ length h.parts → sum_of (part_moment m) (parts_of h) ≡ total h.head.count (λ i. part_moment m (get_or h.parts i no_part))

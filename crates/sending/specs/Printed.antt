@@ -11,6 +11,8 @@ use Rattle.record.specs.declared.Mode.{Mode}
 use Rattle.record.specs.declared.Mode.TheVariants.{Trimmed, Voided, Partial}
 use Rattle.record.specs.declared.Cell.{Cell}
 use Rattle.record.specs.declared.Cell.TheVariants.{Wing, Hatch, Void}
+use Rattle.record.specs.declared.Slack.{Slack}
+use Rattle.record.specs.declared.Slack.TheVariants.{Undivided, Split}
 use Rattle.record.specs.declared.Part.{Part}
 use Rattle.record.specs.declared.Hold.{Hold}
 use Rattle.record.specs.declared.WeightItem.{WeightItem}
@@ -59,20 +61,19 @@ cell_tokens (Wing width dist girder lip) = form "wing" (numbers (width ∷ dist 
 cell_tokens (Hatch width opening lip) = form "hatch" (numbers (width ∷ opening ∷ lip ∷ []))
 cell_tokens (Void width depth lip) = form "void" (numbers (width ∷ depth ∷ lip ∷ []))
 
--- `(part LENGTH CELL ..)`; in mode partial `(part LENGTH BREADTH VOID GRAIN)`
+-- `(part LENGTH CELL ..)`
 abbrev pub section_items : Part → List Token
 section_items p = number p.length ∷ each_form cell_tokens (cells_of p)
 
-abbrev pub slack_items : Part → List Token
-slack_items p = numbers (p.length ∷ p.breadth ∷ p.void ∷ p.grain ∷ [])
-
-abbrev pub part_items : Mode → Part → List Token
-part_items Trimmed p = section_items p
-part_items Voided p = section_items p
-part_items Partial p = slack_items p
+-- in mode partial `(part LENGTH BREADTH VOID GRAIN)`, `(split LENGTH RUN LEFT RIGHT)` (RUN is `along` here: `run` is a token)
+abbrev pub slack_tokens : ℕ → Slack → List Token
+slack_tokens length (Undivided breadth void grain) = form "part" (numbers (length ∷ breadth ∷ void ∷ grain ∷ []))
+slack_tokens length (Split along left right) = form "split" (numbers (length ∷ along ∷ left ∷ right ∷ []))
 
 abbrev pub part_tokens : Mode → Part → List Token
-part_tokens mode p = form "part" (part_items mode p)
+part_tokens Trimmed p = form "part" (section_items p)
+part_tokens Voided p = form "part" (section_items p)
+part_tokens Partial p = slack_tokens p.length p.slack
 
 -- `(hold N MODE SF PART ..)`
 abbrev pub mode_word : Mode → String

@@ -40,11 +40,11 @@ record_forms c =
 abbrev pub as_lines : (lent : ℕ) → List (List Token) → List Sent
 as_lines lent forms = map (λ ts. record { line = spell ts; lent = lent }) forms
 
--- the same part, in what its mode uses: LENGTH and the cells; in mode partial LENGTH, BREADTH, VOID and GRAIN
+-- the same part, in what its mode uses: LENGTH and the cells; in mode partial LENGTH, and BREADTH, VOID and GRAIN or RUN, LEFT and RIGHT
 abbrev pub SamePart : Mode → Part → Part → Type 0
 SamePart Trimmed p q = (q.length ≡ p.length) × (cells_of q ≡ cells_of p)
 SamePart Voided p q = (q.length ≡ p.length) × (cells_of q ≡ cells_of p)
-SamePart Partial p q = (q.length ≡ p.length) × (q.breadth ≡ p.breadth) × (q.void ≡ p.void) × (q.grain ≡ p.grain)
+SamePart Partial p q = (q.length ≡ p.length) × (q.slack ≡ p.slack)
 
 -- the same hold: as many parts, none where no hold is held; and where there are any, the same MODE and SF, and each part the same
 pub record SameHold (h after : Hold) : Type 0 where

@@ -1,6 +1,5 @@
 -- A reading takes tokens from the front, and reads them alike whatever stands behind. A form's law follows its grammar.
 use mathlib.Core.Path.{◌≡◌, refl, sym, ◌∙◌, ap}
-use mathlib.Core.Bool.{Bool, true, false, cond}
 use mathlib.Core.List.{List, [], ◌∷◌, ◌++◌, append_assoc}
 use Prim.Native.Nat.{ℕ, zero, suc}
 use native.Mathlib.Omega.{arith}
@@ -10,9 +9,11 @@ use Rattle.record.specs.declared.Mode.TheVariants.{Trimmed, Voided, Partial}
 use Rattle.record.specs.declared.Cell.{Cell}
 use Rattle.record.specs.declared.Part.{Part}
 use Rattle.text.specs.Token.{Token, opened, closed, run, number_of}
-use Rattle.items.specs.Grammar.{Parsed, got, none, ◌and_then◌, open?, close?, run?, head?, is, behind?, number?, numbers?, nth, last_numbers?, items?, some_of, several?}
+use Rattle.items.specs.Grammar.{Parsed, got, none, ◌and_then◌, open?, close?, run?, head?, behind?, number?, numbers?, nth, last_numbers?, items?, some_of, several?}
 use Rattle.parts.specs.declared.CellWord.{CellWord}
-use Rattle.parts.specs.Shape.{cell_named, numbers_of, cell_of, cell_by, cell?, section_record, slack_record, section?, slack?, body?, part?}
+use Rattle.parts.specs.declared.PartWord.{PartWord}
+use Rattle.parts.specs.declared.PartWord.TheVariants.{PlainWord, SplitWord}
+use Rattle.parts.specs.Shape.{cell_named, numbers_of, cell_of, cell_by, cell?, part_named, section_record, slack_record, split_record, section?, slack?, split?, body?, part?}
 use Rattle.forms.specs.declared.RuleWord.{RuleWord}
 use Rattle.forms.specs.declared.FormWord.{FormWord}
 use Rattle.forms.specs.declared.FormWord.TheVariants.{ShipWord, ColumnWord, LoadWord, HoldWord, DropWord, JudgeWord, ClearWord}
@@ -41,10 +42,6 @@ frames_none ts a us e = clash e
 
 frames_got : {A : Type 0} (b : A) → Frames (λ ts. got b ts)
 frames_got b ts a us e = let t = read_same e in record { front = []; same = t.1; again = λ ws. rw t.0 }
-
-frames_if : {A : Type 0} (x : Bool) {p q : List Token → Parsed A} → Frames p → Frames q → Frames (λ ts. cond x (p ts) (q ts))
-frames_if true f g = f
-frames_if false f g = g
 
 frames_behind : {W A : Type 0} {f : W → List Token → Parsed A} → ((w : W) → Frames (f w)) → (w : Option W) → Frames (behind? f w)
 frames_behind h (Some w) = h w
@@ -150,16 +147,22 @@ section_frames =
 slack_frames : Frames slack?
 slack_frames = frames_then (last_frame 4) (λ v. frames_got (slack_record v))
 
-body_frames : (m : Mode) → Frames (body? m)
-body_frames Trimmed = section_frames
-body_frames Voided = section_frames
-body_frames Partial = slack_frames
+split_frames : Frames split?
+split_frames = frames_then (last_frame 4) (λ v. frames_got (split_record v))
+
+body_frames : (m : Mode) (w : PartWord) → Frames (body? m w)
+body_frames Trimmed PlainWord = section_frames
+body_frames Trimmed SplitWord = frames_none
+body_frames Voided PlainWord = section_frames
+body_frames Voided SplitWord = frames_none
+body_frames Partial PlainWord = slack_frames
+body_frames Partial SplitWord = split_frames
 
 abbrev part_body : Mode → List ℕ → List Token → Parsed Part
-part_body m r us = cond (is r "part") (body? m us) none
+part_body m r us = behind? (body? m) (part_named r) us
 
 parts_frame : (m : Mode) (k : ℕ) → Frames (several? k (part? m))
-parts_frame m k = several_frame (part_body m) (λ r. frames_if (is r "part") (body_frames m) frames_none) k
+parts_frame m k = several_frame (part_body m) (λ r. frames_behind (body_frames m) (part_named r)) k
 
 -- ---- the forms
 hold_by_frames : (n : ℕ) (m : Mode) → Frames (parts? n m)

@@ -2,6 +2,8 @@ pub mod Framing
 pub mod Shapes
 pub mod Forms
 pub mod Own
+pub mod Splits
+pub mod Boards
 pub mod Laws
 pub mod Writing
 pub mod Longest

@@ -22,11 +22,11 @@ use Rattle.showing.proofs.Framing.{clash, read_same}
 use Rattle.showing.proofs.Forms.{own_found}
 
 -- ---- what was read, back to the tokens
-then_got : {A B : Type 0} (p : Parsed A) (f : A → List Token → Parsed B) (b : B) (vs : List Token) → (p and_then f) ≡ got b vs → (a : A) × ((us : List Token) × (p ≡ got a us) × (f a us ≡ got b vs))
+pub then_got : {A B : Type 0} (p : Parsed A) (f : A → List Token → Parsed B) (b : B) (vs : List Token) → (p and_then f) ≡ got b vs → (a : A) × ((us : List Token) × (p ≡ got a us) × (f a us ≡ got b vs))
 then_got none f b vs e = clash e
 then_got (got a us) f b vs e = (a, (us, refl, e))
 
-close_got : (ts us : List Token) (u : Unit {0}) → close? ts ≡ got u us → ts ≡ closed ∷ us
+pub close_got : (ts us : List Token) (u : Unit {0}) → close? ts ≡ got u us → ts ≡ closed ∷ us
 close_got [] us u e = clash e
 close_got (opened ∷ ts) us u e = clash e
 close_got (closed ∷ ts) us u e = cc
@@ -42,7 +42,7 @@ number_by : (n : Option ℕ) (ts us : List Token) (v : ℕ) → behind? got n ts
 number_by (Some w) ts us v e = (cc, cc)
 number_by None ts us v e = clash e
 
-number_got : (ts us : List Token) (v : ℕ) → number? ts ≡ got v us → (r : List ℕ) × (ts ≡ run r ∷ us) × (number_of r ≡ Some v)
+pub number_got : (ts us : List Token) (v : ℕ) → number? ts ≡ got v us → (r : List ℕ) × (ts ≡ run r ∷ us) × (number_of r ≡ Some v)
 number_got ts us v e =
     let t = then_got (run? ts) _ v us e in
     let n = number_by (number_of t.0) t.1.0 us v t.1.2 in

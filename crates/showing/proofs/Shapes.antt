@@ -17,7 +17,9 @@ use Rattle.spelling.specs.Spelling.{one, places, bracket_gaps}
 use Rattle.spelling.proofs.Lengths.{first_run}
 use Rattle.items.specs.Grammar.{Parsed, got, none, ◌and_then◌, open?, close?, run?, head?, is, behind?, number?, numbers?, last_numbers?, or_else, items?, some_of, several?}
 use Rattle.parts.specs.declared.CellWord.{CellWord}
-use Rattle.parts.specs.Shape.{cell_named, numbers_of, cell_by, cell?, section?, slack?, body?, part?}
+use Rattle.parts.specs.declared.PartWord.{PartWord}
+use Rattle.parts.specs.declared.PartWord.TheVariants.{PlainWord, SplitWord}
+use Rattle.parts.specs.Shape.{cell_named, numbers_of, cell_by, cell?, part_named, section?, slack?, split?, body?, part?}
 use Rattle.forms.specs.declared.RuleWord.{RuleWord}
 use Rattle.forms.specs.declared.FormWord.{FormWord}
 use Rattle.forms.specs.declared.FormWord.TheVariants.{ShipWord, ColumnWord, LoadWord, HoldWord, DropWord, JudgeWord, ClearWord}
@@ -39,15 +41,15 @@ opens [] = 0
 opens (t ∷ ts) = here t ts + opens ts
 
 -- ---- what a reading leaves
-data Leaves {A : Type 0} (P : List Token → Type 0) : Parsed A → Type 0 where
+pub data Leaves {A : Type 0} (P : List Token → Type 0) : Parsed A → Type 0 where
   leaves : {a : A} {ts : List Token} → P ts → Leaves P (got a ts)
   nothing : Leaves P none
 
-leaves_with : {A B : Type 0} {P Q : List Token → Type 0} {r : Parsed A} {f : A → List Token → Parsed B} → Leaves P r → ((a : A) (ts : List Token) → P ts → Leaves Q (f a ts)) → Leaves Q (r and_then f)
+pub leaves_with : {A B : Type 0} {P Q : List Token → Type 0} {r : Parsed A} {f : A → List Token → Parsed B} → Leaves P r → ((a : A) (ts : List Token) → P ts → Leaves Q (f a ts)) → Leaves Q (r and_then f)
 leaves_with (leaves {a = a} {ts = ts} p) h = h a ts p
 leaves_with nothing h = nothing
 
-leaves_behind : {W A : Type 0} {P Q : List Token → Type 0} {f : W → List Token → Parsed A} (w : Option W) (ts : List Token) → P ts → ((w : W) (ts : List Token) → P ts → Leaves Q (f w ts)) → Leaves Q (behind? f w ts)
+pub leaves_behind : {W A : Type 0} {P Q : List Token → Type 0} {f : W → List Token → Parsed A} (w : Option W) (ts : List Token) → P ts → ((w : W) (ts : List Token) → P ts → Leaves Q (f w ts)) → Leaves Q (behind? f w ts)
 leaves_behind (Some w) ts p h = h w ts p
 leaves_behind None ts p h = nothing
 
@@ -55,7 +57,7 @@ leaves_if : {A : Type 0} {P : List Token → Type 0} (x : Bool) {r s : Parsed A}
 leaves_if true p q = p
 leaves_if false p q = q
 
-leaves_else : {A : Type 0} {P : List Token → Type 0} {r s : Parsed A} → Leaves P r → Leaves P s → Leaves P (or_else r s)
+pub leaves_else : {A : Type 0} {P : List Token → Type 0} {r s : Parsed A} → Leaves P r → Leaves P s → Leaves P (or_else r s)
 leaves_else (leaves p) q = leaves p
 leaves_else nothing q = q
 
@@ -171,17 +173,23 @@ module _ (most total : ℕ) (end : Stand) where
   slack_leaves : (d k : ℕ) (ts : List Token) → In d k ts → Leaves (Behind d (8 + k)) (slack? ts)
   slack_leaves d k ts p = leaves_with (last_leave d k 4 ts p) (λ v us q. leaves (more_behind (omega arith) q))
 
-  body_leaves : (d k : ℕ) (m : Mode) (ts : List Token) → suc d < most → In d k ts → Leaves (Behind d (8 + k)) (body? m ts)
-  body_leaves d k Trimmed ts h p = section_leaves d k ts h p
-  body_leaves d k Voided ts h p = section_leaves d k ts h p
-  body_leaves d k Partial ts h p = slack_leaves d k ts p
+  split_leaves : (d k : ℕ) (ts : List Token) → In d k ts → Leaves (Behind d (8 + k)) (split? ts)
+  split_leaves d k ts p = leaves_with (last_leave d k 4 ts p) (λ v us q. leaves (more_behind (omega arith) q))
+
+  body_leaves : (d k : ℕ) (m : Mode) (w : PartWord) (ts : List Token) → suc d < most → In d k ts → Leaves (Behind d (8 + k)) (body? m w ts)
+  body_leaves d k Trimmed PlainWord ts h p = section_leaves d k ts h p
+  body_leaves d k Trimmed SplitWord ts h p = nothing
+  body_leaves d k Voided PlainWord ts h p = section_leaves d k ts h p
+  body_leaves d k Voided SplitWord ts h p = nothing
+  body_leaves d k Partial PlainWord ts h p = slack_leaves d k ts p
+  body_leaves d k Partial SplitWord ts h p = split_leaves d k ts p
 
   -- ---- inside this many brackets and those of the form itself
   module _ (d : ℕ) (deep : d + 2 < most) where
     part_leaves : (m : Mode) (k : ℕ) (ts : List Token) → Behind (suc d) k ts → Leaves (Behind (suc d) (9 + k)) (part? m ts)
     part_leaves m k ts p =
         leaves_with (head_leaves d k ts (omega arith) p) (λ r us q.
-        leaves_if (is r "part") (weaker (omega arith) (body_leaves (suc d) (suc k) m us (omega arith) q)) nothing)
+        leaves_behind (part_named r) us q (λ w vs v. weaker (omega arith) (body_leaves (suc d) (suc k) m w vs (omega arith) v)))
 
     -- the forms: a hold opens 54 brackets at most behind its own
     hold_by : (n k : ℕ) (m : Mode) (ts : List Token) → In d k ts → Leaves (Behind d (54 + k)) (parts? n m ts)

@@ -1,13 +1,20 @@
--- The laws of show, and of the lines that it does not take: total and those of weights. Proved in proofs/Laws.antt, Forms.antt and Own.antt.
-use Rattle.std.specs.Prelude.{◌≡◌, List, [], ◌∷◌, ◌++◌, ◌↔◌, ℕ, ◌≤◌, length, Option, Some, None, Ok}
+-- The laws of show, of the holds that have no split, and of the lines that show does not take: total and those of weights. Proved in
+-- proofs/Laws.antt, Forms.antt, Boards.antt, Splits.antt and Own.antt.
+use Rattle.std.specs.Prelude.{◌≡◌, List, [], ◌∷◌, ◌++◌, ◌↔◌, ℕ, ◌≤◌, length, replicate, Option, Some, None, Ok}
 use Rattle.whole.specs.Bytes.{bytes}
 use Rattle.record.specs.declared.Ship.{Ship}
 use Rattle.record.specs.declared.Load.{Load}
 use Rattle.record.specs.declared.Column.{Column}
 use Rattle.record.specs.declared.Hold.{Hold}
+use Rattle.record.specs.declared.Mode.TheVariants.{Partial}
+use Rattle.record.specs.declared.Slack.TheVariants.{Split}
+use Rattle.record.specs.declared.Part.{Part}
 use Rattle.record.specs.declared.Weighing.{Weighing}
 use Rattle.record.specs.declared.Weighing.TheVariants.{Weight, Weighed, Unweigh}
+use Rattle.record.specs.Filler.{no_cell}
 use Rattle.text.specs.Token.{Token, opened, closed, run, tokens, number_of}
+use Rattle.items.specs.Grammar.{got}
+use Rattle.parts.specs.Shape.{part?}
 use Rattle.line_codes.specs.Line.{reading_of}
 use Rattle.spelling.specs.Spelling.{spell, bracket_gaps}
 use Rattle.forms.specs.declared.Request.{Request}
@@ -58,6 +65,37 @@ SpelledIsSound =
 
 abbrev pub SpelledAsksTheSame : Type 0
 SpelledAsksTheSame = (line : List ℕ) (form : List Token) → ShowOf (tokens line) form → request_of (tokens (spell form)) ≡ request_of form
+
+-- document 02, P7: the modes whose parts have cells
+pub data ModeOfCells : List ℕ → Type 0 where
+  trimmed : ModeOfCells (bytes "trimmed")
+  voided : ModeOfCells (bytes "voided")
+
+-- a hold form with the word `split` anywhere behind such a mode has no shape
+abbrev pub NoSplitAmongCells : Type 0
+NoSplitAmongCells =
+    (n mode : List ℕ) (front behind : List Token) → ModeOfCells mode →
+    request_of (opened ∷ run (bytes "hold") ∷ run n ∷ run mode ∷ front ++ run (bytes "split") ∷ behind) ≡ None
+
+-- in one of mode partial a part beside a board is read exactly from `(split LENGTH RUN LEFT RIGHT)`, whatever the four numbers: outside their limits they are 20,
+-- not 14
+pub record SplitOf (p : Part) (ts behind : List Token) : Type 0 where
+  pub length : List ℕ
+  pub along : List ℕ
+  pub left : List ℕ
+  pub right : List ℕ
+  pub is : ts ≡ opened ∷ run (bytes "split") ∷ run length ∷ run along ∷ run left ∷ run right ∷ closed ∷ behind
+  pub a : ℕ
+  pub l : ℕ
+  pub r : ℕ
+  pub lengths : (number_of length ≡ Some p.length) × (number_of along ≡ Some a)
+  pub breadths : (number_of left ≡ Some l) × (number_of right ≡ Some r)
+  pub slack : p.slack ≡ Split a l r
+  pub cells : (p.count ≡ 0) × (p.cells ≡ replicate 8 no_cell)
+
+abbrev pub TakenAsSplit : Type 0
+TakenAsSplit =
+    (ts behind : List Token) (p : Part) (a l r : ℕ) → p.slack ≡ Split a l r → (part? Partial ts ≡ got p behind) ↔ SplitOf p ts behind
 
 -- document 02, P4: a line is taken as total exactly where it is `(total)`, whatever the spaces
 abbrev pub TakenAsTotal : Type 0
