@@ -39,23 +39,17 @@ old: Undivided (nth v 1) (nth v 2) (nth v 3)
 new: Undivided (nth v 1) (nth v 3) (nth v 2)
 """
 
-LEFT_AND_RUN = """
+# A split whose sizes are read in another order: what stands for each in the code, and the places of its numbers.
+SPLIT_READ = """
 file: crates/parts/src/lib.rt
-old: Slack::Split { run, left, right }
-new: Slack::Split { run: left, left: run, right }
+old: Slack::Split {{ run, left, right }}
+new: Slack::Split {{ {} }}
 file: crates/parts/specs/Shape.antt
 old: Split (nth v 1) (nth v 2) (nth v 3)
-new: Split (nth v 2) (nth v 1) (nth v 3)
+new: Split (nth v {}) (nth v {}) (nth v {})
 """
-
-LEFT_AND_RIGHT = """
-file: crates/parts/src/lib.rt
-old: Slack::Split { run, left, right }
-new: Slack::Split { run, left: right, right: left }
-file: crates/parts/specs/Shape.antt
-old: Split (nth v 1) (nth v 2) (nth v 3)
-new: Split (nth v 1) (nth v 3) (nth v 2)
-"""
+LEFT_AND_RUN = SPLIT_READ.format("run: left, left: run, right", 2, 1, 3)
+LEFT_AND_RIGHT = SPLIT_READ.format("run, left: right, right: left", 1, 3, 2)
 
 SPLIT_AMONG_CELLS = """
 file: crates/parts/src/lib.rt
