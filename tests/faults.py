@@ -327,14 +327,6 @@ old: cases false false true t₄
 new: cases false t₂ true t₄
 """
 
-REST_IN_LAWS = """
-file: proofs/Fits.antt
-old: s * e + w * (n - e) ≤ 150000000000000000
-new: s * e + w * (e - e) ≤ 150000000000000000
-old: let t : n - e ≤ 60000 - e = omega arith in omega (arith, mul-le-mul_right e h, mul-le-mul_right (n - e) k)
-new: omega (arith, mul-le-mul_right e h, mul-le-mul_right (e - e) k)
-"""
-
 
 def edit(crate, name, laws=""):
     """A must-fail edit of a crate, and what its laws repeat."""
@@ -469,7 +461,7 @@ FAULTS = {
     "no_second_term": Fault("a line from deck to floor without h³/(24 s²)", [edit("slack", "theorem_no_second_term")]),
     "slope_not_squared": Fault("a line from deck to floor with h³/(24 s)", [edit("slack", "theorem_slope_not_squared")]),
     "lesser_breadth": Fault("two-sevenths of the lesser breadth taken off a board", [edit("boards", "theorem_of_the_lesser_breadth")]),
-    "rest_left_out": Fault("a split without the rest of LENGTH", [edit("boards", "theorem_rest_left_out", REST_IN_LAWS)]),
+    "rest_left_out": Fault("a split without the rest of LENGTH", [edit("boards", "theorem_rest_left_out")]),
     "replaced_stays_in": Fault("the moment of a replaced or dropped hold stays in the figure, that of the new one is taken off", [("", REPLACED_STAYS_IN)]),
     "new_moment_not_put_on": Fault("the moment of a new hold is not put on", [edit("total", "theorem_new_moment_not_put_on")]),
     "drop_puts_on": Fault("a drop puts the figure on once more", [("", DROP_PUTS_ON)]),

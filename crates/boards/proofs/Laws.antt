@@ -6,12 +6,11 @@ use native.Mathlib.Omega.{arith}
 use native.Mathlib.Nat.{mul-le-mul_left, lt_of_not-le, eq-zero-or-pos}
 use native.Mathlib.Decide.{dec_le}
 use Rattle.whole.specs.Divide.{ceil_div}
-use Rattle.whole.proofs.Dividing.{ceil_low, ceil_high, ceil_le}
 use Rattle.slack.specs.Deck.{uncut_moment}
 use Rattle.boards.specs.Split.{effective_length, beside_board, two_stretches, split_volume}
 use Rattle.boards.specs.Exact.{OfOne, EffectiveLength}
 use Rattle.boards.specs.Laws.{LeftOfRun, NothingLeft, OneEffectiveLength, VolumesAreMade, BoardsAddNothing, IneffectiveAlike, Laws}
-use Rattle.boards.proofs.Moments.{deep_uncut, separately}
+use Rattle.boards.proofs.Moments.{ceil_more, uncut_near, deep_uncut, separately}
 use Rattle.boards.proofs.Fits.{effective_le, volume_fits_lem}
 use Rattle.boards.proofs.Near.{near_the_exact_lem}
 
@@ -55,14 +54,11 @@ volumes_are_made_lem length run l r h =
       whole_moment = uncut_moment (l + r);
       board = effective run l r;
       stretches = omega arith;
-      left = moment l;
-      right = moment r;
-      whole = moment (l + r);
+      left = uncut_near l;
+      right = uncut_near r;
+      whole = uncut_near (l + r);
       sum = refl;
     }
-  where
-    moment : (b : ℕ) → (46631 * (b * b * b) ≤ 1200000 * uncut_moment b) × (1200000 * uncut_moment b < 46631 * (b * b * b) + 1200000)
-    moment b = (omega (arith, ceil_low (46631 * (b * (b * b))) 1200000 (omega arith)), omega (arith, ceil_high (46631 * (b * (b * b))) 1200000 (omega arith)))
 
 -- two stretches of a length, and one over all of it: with s not above w; with none of the first; with two breadths of 1 mm
 stretched : (s w n e : ℕ) → s ≤ w → e ≤ n → s * e + w * (n - e) ≤ w * n
@@ -74,15 +70,12 @@ unstretched s w n = let t : n - 0 ≡ n = omega arith in rw t (omega arith)
 tiny : (n e : ℕ) → 1 ≤ n → n ≤ 60000 → e ≤ n → ceil_div (2 * e + 1 * (n - e)) 1000000000 ≤ ceil_div (1 * n) 1000000000
 tiny n e p q h = omega arith
 
-rounded_le : (n m : ℕ) → n ≤ m → ceil_div n 1000000000 ≤ ceil_div m 1000000000
-rounded_le n m h = ceil_le n 1000000000 (ceil_div m 1000000000) (omega arith) (omega (arith, ceil_low m 1000000000 (omega arith)))
-
 boards_add_nothing_lem : BoardsAddNothing
 unfolding split_volume
 boards_add_nothing_lem length run l r some long fits p q broad = rw (deep_uncut (l + r) broad) (by (separately l r p q))
   where
     by : (beside_board l r ≤ uncut_moment (l + r)) ⊎ ((l ≡ 1) × (r ≡ 1)) → ceil_div (two_stretches length (effective_length run l r) l r) 1000000000 ≤ ceil_div (uncut_moment (l + r) * length) 1000000000
-    by (inl h) = rounded_le _ _ (stretched (beside_board l r) (uncut_moment (l + r)) length (effective_length run l r) h (effective_le length run l r fits))
+    by (inl h) = ceil_more _ _ 1000000000 (omega arith) (stretched (beside_board l r) (uncut_moment (l + r)) length (effective_length run l r) h (effective_le length run l r fits))
     by (inr (a, b)) = rw (a, b) (tiny length (effective_length run 1 1) some long (effective_le length run 1 1 fits))
 
 ineffective_alike_lem : IneffectiveAlike

@@ -1,16 +1,25 @@
 -- How large section moments are, and that two breadths that shift separately have no more than both as one.
 use mathlib.Core.Path.{◌≡◌, refl}
 use mathlib.Core.Logic.{inl, inr}
-use Prim.Native.Nat.{ℕ, zero, suc, ◌+◌, ◌*◌, ◌^◌, ◌≤◌}
+use Prim.Native.Nat.{ℕ, zero, suc, ◌+◌, ◌*◌, ◌^◌, ◌≤◌, ◌<◌}
 use native.Mathlib.Omega.{arith}
 use native.Mathlib.Nat.{mul-le-mul}
+use Rattle.whole.specs.Divide.{ceil_div}
 use Rattle.whole.proofs.Dividing.{ceil_low, ceil_high, ceil_le}
 use Rattle.slack.specs.Deck.{uncut_moment, deck_moment}
 use Rattle.slack.proofs.Rows.{by_uncut}
 use Rattle.boards.specs.Split.{beside_board}
 use Rattle.boards.specs.Laws.{SeparatelyNoMore}
 
--- ---- a section moment within a part's limits
+-- ---- rounded up, more stays more
+pub ceil_more : (n m d : ℕ) → 0 < d → n ≤ m → ceil_div n d ≤ ceil_div m d
+ceil_more n m d p h = ceil_le n d (ceil_div m d) p (omega (arith, ceil_low m d p))
+
+-- ---- a section moment is slope × breadth³/12, rounded up
+pub uncut_near : (b : ℕ) → (46631 * (b * b * b) ≤ 1200000 * uncut_moment b) × (1200000 * uncut_moment b < 46631 * (b * b * b) + 1200000)
+uncut_near b = (omega (arith, ceil_low (46631 * (b * (b * b))) 1200000 (omega arith)), omega (arith, ceil_high (46631 * (b * (b * b))) 1200000 (omega arith)))
+
+-- ---- within a part's limits
 pub uncut_le : (b : ℕ) → b ≤ 40000 → uncut_moment b ≤ 2486986666667
 uncut_le b h = let bb = mul-le-mul h h in ceil_le (46631 * (b * (b * b))) 1200000 2486986666667 (omega arith) (omega (arith, mul-le-mul h bb))
 
@@ -26,7 +35,7 @@ deep_uncut b h = by_uncut b 30000 30000 30000 refl (omega arith)
 -- (l + r)³ is l³ + r³ and 3 l r (l + r): where that is 9 or more, its 3 × 46,631/1,200,000 make up for both roundings
 gained : (l r : ℕ) → 9 ≤ l * (r * (l + r)) → beside_board l r ≤ uncut_moment (l + r)
 gained l r h =
-    omega (arith, ceil_high (46631 * (l * (l * l))) 1200000 (omega arith), ceil_high (46631 * (r * (r * r))) 1200000 (omega arith), ceil_low (46631 * ((l + r) * ((l + r) * (l + r)))) 1200000 (omega arith))
+    omega (arith, (uncut_near l).1, (uncut_near r).1, (uncut_near (l + r)).0)
 
 pub separately : SeparatelyNoMore
 separately zero r p q = absurd (omega arith)
@@ -42,7 +51,7 @@ separately (suc (suc l)) (suc (suc r)) p q = inl (gained (suc (suc l)) (suc (suc
 pub beside_le : (l r : ℕ) → l + r ≤ 40000 → beside_board l r ≤ 2486986666668
 beside_le l r h =
     let n = l + r in
-    omega (arith, ceil_high (46631 * (l * (l * l))) 1200000 (omega arith), ceil_high (46631 * (r * (r * r))) 1200000 (omega arith), mul-le-mul h (mul-le-mul h h))
+    omega (arith, (uncut_near l).1, (uncut_near r).1, mul-le-mul h (mul-le-mul h h))
 
 -- ---- over any length of 16 bits each stretch leaves room for the other
 module _ (n : ℕ) (short : n ≤ 65535) where

@@ -3,11 +3,11 @@ use mathlib.Core.Path.{◌≡◌, ap}
 use Prim.Native.Nat.{ℕ, ◌+◌, ◌*◌, ◌-◌, ◌≤◌}
 use native.Mathlib.Omega.{arith}
 use native.Mathlib.Nat.{mul-le-mul, mul-le-mul_left, mul-le-mul_right}
-use Rattle.whole.proofs.Dividing.{ceil_low, ceil_high}
 use Rattle.slack.specs.Deck.{uncut_moment}
 use Rattle.boards.specs.Split.{effective_length, beside_board, split_volume}
 use Rattle.boards.specs.Exact.{sevenths_left}
 use Rattle.boards.specs.Laws.{NearTheExact}
+use Rattle.boards.proofs.Moments.{uncut_near}
 use Rattle.boards.proofs.Fits.{effective_le}
 
 -- s and w are the moments of the two and of the one, a and c their cubes; e is the effective length of n, and t what is left of the board, in sevenths
@@ -37,10 +37,9 @@ near_the_exact_lem length run l r fits p q =
     let few : t - 7 * e ≤ 6 = omega arith in
     let part = effective_le length run l r fits in
     let some : 1 ≤ l * r * (l + r) = omega (arith, mul-le-mul (mul-le-mul p q) p) in
-    let low : (b : ℕ) → 46631 * (b * b * b) ≤ 1200000 * uncut_moment b = λ b. omega (arith, ceil_low (46631 * (b * (b * b))) 1200000 (omega arith)) in
-    let high : (b : ℕ) → 1200000 * uncut_moment b ≤ 46631 * (b * b * b) + 1200000 = λ b. omega (arith, ceil_high (46631 * (b * (b * b))) 1200000 (omega arith)) in
-    let two_low : 46631 * (l * l * l + r * r * r) ≤ 1200000 * beside_board l r = omega (arith, low l, low r) in
-    let two_high : 1200000 * beside_board l r ≤ 46631 * (l * l * l + r * r * r) + 2400000 = omega (arith, high l, high r) in (
-      never_below _ _ _ _ _ length e t cube part (omega arith) few (omega arith) two_low (low (l + r)),
-      omega (arith, near _ _ _ _ _ length e t cube part (omega arith) few (omega arith) two_high (high (l + r)), some),
+    let one_high : 1200000 * uncut_moment (l + r) ≤ 46631 * ((l + r) * (l + r) * (l + r)) + 1200000 = omega (arith, (uncut_near (l + r)).1) in
+    let two_low : 46631 * (l * l * l + r * r * r) ≤ 1200000 * beside_board l r = omega (arith, (uncut_near l).0, (uncut_near r).0) in
+    let two_high : 1200000 * beside_board l r ≤ 46631 * (l * l * l + r * r * r) + 2400000 = omega (arith, (uncut_near l).1, (uncut_near r).1) in (
+      never_below _ _ _ _ _ length e t cube part (omega arith) few (omega arith) two_low (uncut_near (l + r)).0,
+      omega (arith, near _ _ _ _ _ length e t cube part (omega arith) few (omega arith) two_high one_high, some),
     )

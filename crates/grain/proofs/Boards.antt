@@ -5,10 +5,8 @@ use mathlib.Core.List.{List, [], ◌∷◌, ◌++◌}
 use Prim.Native.Nat.{ℕ, ◌≤◌}
 use native.Mathlib.Omega.{arith}
 use native.Mathlib.Nat.{mul-le-mul_left, mul-le-mul_right}
-use Rattle.whole.specs.Divide.{ceil_div}
 use Rattle.whole.specs.Lists.{within, all, sum_of}
 use Rattle.whole.proofs.Lists.{and_true}
-use Rattle.whole.proofs.Dividing.{ceil_low, ceil_le}
 use Rattle.record.specs.declared.Mode.TheVariants.{Partial}
 use Rattle.record.specs.declared.Slack.TheVariants.{Split}
 use Rattle.record.specs.declared.Part.{Part}
@@ -18,19 +16,14 @@ use Rattle.limits.specs.Limits.{part_limits, hold_limits}
 use Rattle.limits.specs.Ranges.{SizeRange}
 use Rattle.limits.proofs.Ranges.{slack_range}
 use Rattle.boards.specs.Exact.{EffectiveLength}
+use Rattle.boards.proofs.Moments.{ceil_more}
 use Rattle.boards.proofs.Laws.{laws}
 use Rattle.grain.specs.Slack.{slack_volume}
 use Rattle.grain.specs.Sum.{part_moment, percentage, hold_moment, weight_moment}
 use Rattle.grain.specs.Boards.{BoardTakenOut, BoardsAddNoWeight}
 use Rattle.grain.proofs.Weights.{hold_within}
 
-alike : {m n : ℕ} → m ≤ n → n ≤ m → m ≡ n
-alike h k = omega arith
-
 -- ---- one part in the place of another
-ceil_more : (n m d : ℕ) → 1 ≤ d → n ≤ m → ceil_div n d ≤ ceil_div m d
-ceil_more n m d p h = ceil_le n d (ceil_div m d) p (omega (arith, ceil_low m d p))
-
 sum_put : {A : Type 0} (f : A → ℕ) (xs ys : List A) (p q : A) → f p ≤ f q → sum_of f (xs ++ p ∷ ys) ≤ sum_of f (xs ++ q ∷ ys)
 unfolding sum_of
 sum_put f [] ys p q h = omega arith
@@ -87,6 +80,10 @@ boards_add_no_weight_lem h without run l r b e =
     let m = weighs_no_less h without b.before b.after b.split b.whole b.head some b.parts b.others (rw b.partial (no_lighter h without run l r b a.0)) in (
       rw (b.others, b.head, t.0, u.0, b.partial, a.1),
       m,
-      λ z. alike m (weighs_no_less without h b.before b.after b.whole b.split (sym b.head) (rw b.head some) b.others b.parts
-          (rw (b.head, b.partial) (no_heavier h without run l r b a.0 z))),
+      λ z. omega (
+        arith,
+        m,
+        weighs_no_less without h b.before b.after b.whole b.split (sym b.head) (rw b.head some) b.others b.parts
+            (rw (b.head, b.partial) (no_heavier h without run l r b a.0 z)),
+      ),
     )
