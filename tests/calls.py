@@ -12,8 +12,9 @@ import support
 
 CRATES_LIST = support.REPOSITORY / "crates.txt"
 PROGRAM = "panel_service"
-# The reading crates: the one that takes a line's bytes apart, and all that use it, directly or through others.
-LOWEST = "text"
+# The reading crates: the one that tests bytes eight at a time, by which the end of a line, its bytes and its runs are found, and
+# all that use it, directly or through others, `text` and `input` among them.
+LOWEST = "lanes"
 
 # Some calls on a line's way through the reader. The graph must have them, or it is not the program's.
 KNOWN_CALLS = [
@@ -21,11 +22,17 @@ KNOWN_CALLS = [
     ("lines::take_lines", "lines::take_line"),
     ("lines::take_line", "panel::take"),
     ("panel::take", "hearing::hear"),
-    ("hearing::hear", "line_codes::reading_of"),
+    ("hearing::hear", "line_codes::test_bytes"),
     ("hearing::hear", "request::request_of"),
-    ("line_codes::reading_of", "line_codes::one_form"),
-    ("line_codes::all_sound", "line_codes::is_sound"),
+    ("hearing::hear", "line_codes::test_form"),
+    ("line_codes::test_bytes", "line_codes::only_allowed"),
+    ("line_codes::only_allowed", "lanes::all"),
+    ("lanes::all", "lanes::all_eights"),
+    ("line_codes::test_form", "line_codes::walked"),
+    ("line_codes::walked", "line_codes::is_sound"),
     ("line_codes::is_number_if_digit", "text::number_of"),
+    ("text::first_piece", "text::run_length"),
+    ("input::line_end", "input::bytes_before"),
 ]
 
 # What stands in a crate's source where a function begins, and, behind the spaces, one that stands in something.

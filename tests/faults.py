@@ -156,8 +156,6 @@ old: pub step_refused : 96 ≤ n → step_of c line n ≡ answered (refused_with
 new: pub step_refused : 128 ≤ n → step_of c line n ≡ answered (refused_with (fault_code f) c)
 old: step_refused p = step_is (Err f) heard ∙ rw (le-ltb n 96 p)
 new: step_refused p = step_is (Err f) heard ∙ rw (le-ltb n 128 p)
-old: fault_kept = rw (step_is (Err f) heard) (by (ltb n 96))
-new: fault_kept = rw (step_is (Err f) heard) (by (ltb n 128))
 old: pub step_request : 96 ≤ n → step_of c line n ≡ outcome_of c (tokens line) n r
 new: pub step_request : 128 ≤ n → step_of c line n ≡ outcome_of c (tokens line) n r
 old: step_request p = step_is (Ok r) heard ∙ rw (le-ltb n 96 p)
@@ -179,8 +177,8 @@ file: crates/panel/proofs/Room.antt
 old: any_room line = rw (le-ltb n 96 (omega arith), any_after line (reading_of line))
 new: any_room line = rw (le-ltb n 128 (omega arith), any_after line (reading_of line))
 file: crates/panel/proofs/answer/Answers.antt
-old: let room : 96 ≤ length c.args.out.now = search rules in
-new: let room : 128 ≤ length c.args.out.now = search rules in
+old: let room : 96 ≤ n = search rules in
+new: let room : 128 ≤ n = search rules in
 """
 
 SHOW_ROOM_2200 = """
@@ -370,12 +368,8 @@ def clear_keeps(field):
     after = "; ".join(f"{name} = {'c' if name == field else 'empty'}.{name}" for name in fields)
     return f"""
 file: crates/effects/src/lib.rt
-old: ghost use Rattle.effects.specs.Effect.{{effect_of}};
-new: ghost use Rattle.effects.specs.Effect.{{effect_of, cleared_of}};
-old: ensures {{ c.new ≡ empty }}
-new: ensures {{ c.new ≡ cleared_of c.old }}
-old:     *c = condition::empty_condition();
-new:     let kept = c.{field}; *c = condition::empty_condition(); c.{field} = kept;
+old:         Request::ClearLine => condition::clear(c),
+new:         Request::ClearLine => {{ let kept = c.{field}; condition::clear(c); c.{field} = kept; }}
 file: crates/effects/specs/Effect.antt
 old: -- what a request puts into the condition, w being the moment of its hold. It is taken only where the request is answered with 00; elsewhere its value is free,
 new: abbrev pub cleared_of : Condition → Condition

@@ -2,20 +2,11 @@
 #![tactic(auto)]
 
 ghost use Rattle.std.specs.Prelude.{◌≡◌};
-ghost use Rattle.condition.specs.Condition.{empty};
 ghost use Rattle.effects.specs.Effect.{effect_of};
 
 use condition::Condition;
 use forms::Request;
 use record::Weighing;
-
-// Apart, so that only a clear makes room for a second condition.
-#[inline(never)]
-fn clear(c: &mut Condition)
-    ensures { c.new ≡ empty }
-{
-    *c = condition::empty_condition();
-}
 
 // What a request that was answered with 00 puts into the condition, with the moment that the answer to a hold found. In place: the condition is large.
 #[tactic(auto, unfolding(crate::specs::Effect::effect_of))]
@@ -29,7 +20,7 @@ pub fn effect(c: &mut Condition, r: &Request, moment: u64)
         Request::HoldLine(n, h) => storing::store_hold(c, *n, h, moment),
         Request::DropLine(n) => storing::store_hold(c, *n, &record::no_hold(), 0),
         Request::JudgeLine | Request::ShowLine | Request::TotalLine => {}
-        Request::ClearLine => clear(c),
+        Request::ClearLine => condition::clear(c),
         Request::WeighingLine(w) => match w {
             Weighing::Weight(i) => storing::store_sums(c, weights::with_item(c.sums, *i)),
             Weighing::Weighed(fs) => storing::store_load(c, weights::weighed_load(c.sums, *fs)),

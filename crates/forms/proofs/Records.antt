@@ -3,15 +3,15 @@ use mathlib.Core.Path.{◌≡◌, refl, ◌∙◌}
 use mathlib.Core.List.{List, map}
 use Prim.Native.Nat.{ℕ, ◌≤◌}
 use lib.ListN.{length, take, replicate, length-map}
-use Rattle.std.specs.Prelude.{Some}
+use Rattle.std.specs.Prelude.{Option, Some, None}
 use Rattle.std.specs.Borrow.{Bor}
 use Rattle.text.specs.Token.{Token, tokens}
 use Rattle.record.specs.declared.Part.{Part}
 use Rattle.record.specs.declared.Mode.{Mode}
 use Rattle.record.specs.Filler.{no_part, padded}
-use Rattle.items.specs.Grammar.{Parsed, got, none, ◌and_then◌, close?, number?, several?}
+use Rattle.items.specs.Grammar.{got, none, close?, number?, several?}
 use Rattle.items.specs.Carried.{carry, carried}
-use Rattle.items.specs.Reads.{Fills}
+use Rattle.items.specs.Reads.{passed_of, Fills}
 use Rattle.items.proofs.Walks.{carries, kept, several_built, several_unbuilt}
 use Rattle.parts.specs.Shape.{part?}
 use Rattle.parts.specs.Carried.{carried_part}
@@ -22,6 +22,7 @@ use Rattle.forms.specs.declared.Request.{Request}
 use Rattle.forms.specs.declared.Request.TheVariants.{HoldLine}
 use Rattle.forms.specs.Shape.{rule_of, hold_record, parts?, bare?}
 use Rattle.forms.specs.Carried.{carried_rule, carried_request}
+use Rattle.forms.specs.Reads.{read_into}
 
 -- a rule with its edge, as it is carried
 pub rule_kept : (w : RuleWord) (edge : ℕ) → carried_rule (rule_of w edge) ≡ rule_of w (carried edge)
@@ -48,10 +49,7 @@ module _ (n : ℕ) (mode : Mode) (ts : List Token) (v : ℕ) (us : List Token) (
       rw i.is (several_built carried_part (part? mode) carried_request (λ ps. HoldLine n (hold_record mode i.read ps)) 6 us (take count parts) (tokens ws.now) _ e.0
       (λ xs m. hold_kept n mode i.read xs ∙ rw (← i.kept, ← length-map xs carried_part, ← m, front.0, ← front.1)))
 
--- a request that holds no numbers is carried as it is
-pub bare_kept : (r : Request) (ts : List Token) → carried_request r ≡ r → carry carried_request (bare? r ts) ≡ bare? r ts
-bare_kept r ts e = by (close? ts)
-  where
-    by : (p : Parsed (Unit {0})) → carry carried_request (p and_then λ u us. got r us) ≡ (p and_then λ u us. got r us)
-    by (got u us) = rw e
-    by none = refl
+-- a form of its word alone is read where its bracket is passed: its request holds no numbers, and is carried as it is
+pub bare_read : (r : Request) (ts : List Token) (o : Option (Bor (List ℕ))) → carried_request r ≡ r → close? ts ≡ passed_of o → carry carried_request (bare? r ts) ≡ read_into r o
+bare_read r ts (Some rest) e closed = rw (closed, e)
+bare_read r ts None e closed = rw closed

@@ -1,2 +1,3 @@
 pub mod Shape
 pub mod Carried
+pub mod Reads

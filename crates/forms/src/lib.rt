@@ -4,14 +4,14 @@
 ghost use Rattle.std.specs.Prelude.{◌≡◌};
 ghost use Rattle.text.specs.Token.{tokens};
 ghost use Rattle.items.specs.Carried.{carry};
-ghost use Rattle.items.specs.Reads.{read_of};
-ghost use Rattle.forms.specs.Shape.{rule_named, rule_of, ship?, column?, load?, mode_named, parts?, hold?, drop?, bare?, form_word, form_by};
+ghost use Rattle.forms.specs.Shape.{rule_named, rule_of, ship?, column?, load?, mode_named, parts?, hold?, drop?, form_word, form_by};
 ghost use Rattle.forms.specs.Carried.{carried_request};
+ghost use Rattle.forms.specs.Reads.{read_into};
 
 use record::{Column, Head, Hold, Load, Mode, Rule, Ship, Weighing};
-use text::Read;
 
-// What a line asks for: which form it is, with its record.
+// What a line asks for: which form it is, with its record. It is large: what reads one writes it into memory that is lent, and gives what is left of the line. Where it gives none,
+// what that memory holds is left open.
 #[derive(Clone, Copy)]
 pub enum Request {
     ShipLine(Ship),
@@ -69,8 +69,8 @@ fn rule_of(word: RuleWord, edge: u16) -> Rule
 }
 
 // `RULE EDGE FLOOD)`
-fn ship(s: &[u8]) -> Read<'_, Request>
-    ensures { carry carried_request (ship? (tokens s.now)) ≡ read_of result }
+fn ship<'a>(s: &'a [u8], request: &mut Request) -> Option<&'a [u8]>
+    ensures { carry carried_request (ship? (tokens s.now)) ≡ read_into request.new result }
 {
     let (word, rest) = items::run(s)?;
     let word = rule_named(word)?;
@@ -79,54 +79,50 @@ fn ship(s: &[u8]) -> Read<'_, Request>
         rule: rule_of(word, edge),
         flood,
     };
-    Some((Request::ShipLine(ship), rest))
+    *request = Request::ShipLine(ship);
+    Some(rest)
 }
 
 // `D KG FS)`
-fn load(s: &[u8]) -> Read<'_, Request>
-    ensures { carry carried_request (load? (tokens s.now)) ≡ read_of result }
+fn load<'a>(s: &'a [u8], request: &mut Request) -> Option<&'a [u8]>
+    ensures { carry carried_request (load? (tokens s.now)) ≡ read_into request.new result }
 {
     let (d, rest) = items::number(s)?;
     let ([kg, fs], rest) = items::last_sizes::<2>(rest)?;
-    Some((Request::LoadLine(Load { d, kg, fs }), rest))
+    *request = Request::LoadLine(Load { d, kg, fs });
+    Some(rest)
 }
 
 // `N)`
 #[tactic(auto, unfolding(crate::specs::Carried::carried_request))]
-fn drop(s: &[u8]) -> Read<'_, Request>
-    ensures { carry carried_request (drop? (tokens s.now)) ≡ read_of result }
+fn drop<'a>(s: &'a [u8], request: &mut Request) -> Option<&'a [u8]>
+    ensures { carry carried_request (drop? (tokens s.now)) ≡ read_into request.new result }
 {
     let (n, rest) = items::number(s)?;
     let rest = items::close(rest)?;
-    Some((Request::DropLine(n), rest))
-}
-
-// `)`
-pub fn bare(request: Request, s: &[u8]) -> Read<'_, Request>
-    ensures { bare? request (tokens s.now) ≡ read_of result }
-{
-    let rest = items::close(s)?;
-    Some((request, rest))
+    *request = Request::DropLine(n);
+    Some(rest)
 }
 
 // `D KM (K .. K))`
 #[tactic(auto, unfolding(crate::specs::Carried::carried_request))]
-fn column(s: &[u8]) -> Read<'_, Request>
-    ensures { carry carried_request (column? (tokens s.now)) ≡ read_of result }
+fn column<'a>(s: &'a [u8], request: &mut Request) -> Option<&'a [u8]>
+    ensures { carry carried_request (column? (tokens s.now)) ≡ read_into request.new result }
 {
     let (d, rest) = items::number(s)?;
     let (km, rest) = items::size(rest)?;
     let rest = items::open(rest)?;
     let (kn, rest) = items::last_sizes::<10>(rest)?;
     let rest = items::close(rest)?;
-    Some((Request::ColumnLine(Column { d, km, kn }), rest))
+    *request = Request::ColumnLine(Column { d, km, kn });
+    Some(rest)
 }
 
 // ---- a hold
 
 // `SF PART ..)`. `as` keeps a count of at most six: of `try_from` the error that cannot be would have to be answered, as of cells.
-fn parts(n: u32, mode: Mode, s: &[u8]) -> Read<'_, Request>
-    ensures { carry carried_request (parts? n mode (tokens s.now)) ≡ read_of result }
+fn parts<'a>(n: u32, mode: Mode, s: &'a [u8], request: &mut Request) -> Option<&'a [u8]>
+    ensures { carry carried_request (parts? n mode (tokens s.now)) ≡ read_into request.new result }
 {
     let (factor, rest) = items::size(s)?;
     let mut hold = record::no_hold();
@@ -136,7 +132,8 @@ fn parts(n: u32, mode: Mode, s: &[u8]) -> Read<'_, Request>
         factor,
         count: count as u8,
     };
-    Some((Request::HoldLine(n, hold), rest))
+    *request = Request::HoldLine(n, hold);
+    Some(rest)
 }
 
 // The words of modes.
@@ -154,13 +151,13 @@ fn mode_named(word: &[u8]) -> Option<Mode>
 }
 
 // `N MODE SF PART ..)`
-fn hold(s: &[u8]) -> Read<'_, Request>
-    ensures { carry carried_request (hold? (tokens s.now)) ≡ read_of result }
+fn hold<'a>(s: &'a [u8], request: &mut Request) -> Option<&'a [u8]>
+    ensures { carry carried_request (hold? (tokens s.now)) ≡ read_into request.new result }
 {
     let (n, rest) = items::number(s)?;
     let (word, rest) = items::run(rest)?;
     let mode = mode_named(word)?;
-    parts(n, mode, rest)
+    parts(n, mode, rest, request)
 }
 
 // ---- a form by its word
@@ -184,17 +181,23 @@ pub fn form_word(word: &[u8]) -> Option<FormWord>
 }
 
 // What stands behind a form's word.
-#[tactic(auto, using(crate::proofs::Records::bare_kept), unfolding(crate::specs::Carried::carried_request))]
-pub fn form_by(word: FormWord, s: &[u8]) -> Read<'_, Request>
-    ensures { carry carried_request (form_by word (tokens s.now)) ≡ read_of result }
+#[tactic(auto, using(crate::proofs::Records::bare_read), unfolding(crate::specs::Carried::carried_request))]
+pub fn form_by<'a>(word: FormWord, s: &'a [u8], request: &mut Request) -> Option<&'a [u8]>
+    ensures { carry carried_request (form_by word (tokens s.now)) ≡ read_into request.new result }
 {
     match word {
-        FormWord::ShipWord => ship(s),
-        FormWord::ColumnWord => column(s),
-        FormWord::LoadWord => load(s),
-        FormWord::HoldWord => hold(s),
-        FormWord::DropWord => drop(s),
-        FormWord::JudgeWord => bare(Request::JudgeLine, s),
-        FormWord::ClearWord => bare(Request::ClearLine, s),
+        FormWord::ShipWord => ship(s, request),
+        FormWord::ColumnWord => column(s, request),
+        FormWord::LoadWord => load(s, request),
+        FormWord::HoldWord => hold(s, request),
+        FormWord::DropWord => drop(s, request),
+        FormWord::JudgeWord => {
+            *request = Request::JudgeLine;
+            items::close(s)
+        }
+        FormWord::ClearWord => {
+            *request = Request::ClearLine;
+            items::close(s)
+        }
     }
 }

@@ -6,6 +6,9 @@ ghost use Rattle.std.specs.List.{prefix_len};
 ghost use Rattle.input.specs.Lines.{most_lines, most_bytes, line_length};
 ghost use Rattle.input.specs.Limits.{Asked, ToldIs};
 
+use lanes::ByteTest;
+use std::simd::prelude::*;
+
 // What a read tells: the input goes on; the line that has begun is its last; no line more.
 #[derive(Clone, Copy)]
 pub enum Told {
@@ -19,12 +22,27 @@ const LONGEST_KEPT: usize = 2001;
 
 // ---- lines of a block
 
-// How many bytes stand before the first byte 10: like `text::run_length` one line of the library's own words, which a function over a test would only rename.
+// A byte that ends no line.
+struct InLine;
+
+impl ByteTest for InLine {
+    ghost passes = { λ b. not (b == 10) };
+
+    fn of_one(b: u8) -> bool {
+        b != b'\n'
+    }
+
+    fn of_eight(v: u8x8) -> u64 {
+        lanes::differs(v, b'\n')
+    }
+}
+
+// How many bytes stand before the first byte 10.
 fn bytes_before(s: &[u8]) -> usize
     ensures value { result ≡ prefix_len (λ b. not (b == 10)) s.now }
     ensures upper_bound { result ≤ length s.now }
 {
-    s.iter().take_while(|b| **b != b'\n').count()
+    lanes::front::<InLine>(s)
 }
 
 // The place of the next byte 10 from `at` on, or the block's end. Of a place and no slice that is left: `lines` says why.

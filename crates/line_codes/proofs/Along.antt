@@ -11,13 +11,7 @@ use Rattle.text.proofs.Parts.{tokens_opening, tokens_closing, tokens_space, toke
 use Rattle.text.proofs.Runs.{run_token}
 use Rattle.text.proofs.Sorts.{not_in_run}
 use Rattle.line_codes.specs.Line.{Stand, before, inside, behind, wrong, further, walked, deepest, is_behind, one_form}
-use Rattle.std.specs.Prelude.{Option, Some, None, Ok, Err}
-use Rattle.std.specs.Option.{ok_or}
-use native.Mathlib.Omega.{arith}
-use Rattle.line_codes.specs.declared.Fault.{Fault}
-use Rattle.line_codes.specs.declared.Fault.TheVariants.{NotOneForm}
-use Rattle.line_codes.specs.declared.Part.{Part}
-use Rattle.line_codes.specs.Parts.{stand_of, over_run, over_token, PartIs}
+use Rattle.line_codes.specs.Parts.{over_run, over_token}
 use Rattle.line_codes.specs.Codes.{Allowed, opening, closing, space, of_run}
 use Rattle.line_codes.proofs.Bytes.{in_run_lem, may_stand}
 use Rattle.line_codes.proofs.Walks.{over_space, over_other, over_any, over_plain}
@@ -76,16 +70,6 @@ along_wrong most [] = refl
 along_wrong most (opened ∷ ts) = along_wrong most ts
 along_wrong most (closed ∷ ts) = along_wrong most ts
 along_wrong most (run r ∷ ts) = along_wrong most ts
-
--- whether there is a part behind a token
-module _ (most : ℕ) (p : Part) (t : Token) where
-  pub part_none : (r : Option Part) (f : Fault) → Err f ≡ ok_or r NotOneForm → PartIs most p t r → over_token most (stand_of p) t ≡ wrong
-  part_none None f e h = h
-  part_none (Some q) f e h = let z : ◌≡◌ {A = ℕ} 0 1 = cc in absurd (omega arith)
-
-  pub part_some : (r : Option Part) (q : Part) → Ok q ≡ ok_or r NotOneForm → PartIs most p t r → over_token most (stand_of p) t ≡ stand_of q
-  part_some (Some x) q e h = let k : x ≡ q = cc in rw (← k) h
-  part_some None q e h = let z : ◌≡◌ {A = ℕ} 0 1 = cc in absurd (omega arith)
 
 -- ---- what the walk along a line of allowed bytes finds: it has come to p, and ts is what is left
 module _ (s : List ℕ) (ok : all allowed s ≡ true) (most : ℕ) (limit : most ≡ deepest (tokens s)) (p : Stand) (ts : List Token) (come : along most p ts ≡ along most before (tokens s)) where

@@ -4,42 +4,60 @@ use mathlib.Core.Bool.{Bool, true, false, not, cond}
 use mathlib.Core.List.{List}
 use Prim.Native.Nat.{ℕ, ◌≤◌, ◌<◌}
 use native.Mathlib.Omega.{arith}
+use lib.Dec.{ltb}
 use lib.ListN.{length, take}
 use lib.Seq.{length-take-le}
-use borrow.Author.Tests.{lt-ltb, le-ltb}
-use Rattle.std.specs.List.{list_all}
+use borrow.Author.Tests.{lt-ltb, le-ltb, ltb-false}
 use Rattle.whole.specs.Lists.{all}
-use Rattle.whole.proofs.Lists.{list_all_is}
-use Rattle.std.specs.Prelude.{Ok, Err}
+use Rattle.std.specs.Prelude.{Option, Some, None, Ok, Err}
 use Rattle.line_codes.specs.declared.Fault.{Fault}
 use Rattle.line_codes.specs.declared.Fault.TheVariants.{TooLong, BadByte, NotOneForm, BadNumber}
 use Rattle.text.specs.Token.{allowed, tokens}
+use Rattle.line_codes.specs.Alike.{AllowedLine}
+use Rattle.line_codes.specs.Parts.{bytes_tested}
 use Rattle.line_codes.specs.Line.{Reading, tested, deepest, one_form, sound_token, reading_of}
 
--- one test behind another
-abbrev pub behind_it : Reading → Reading → Reading
-behind_it (Ok u) next = next
-behind_it (Err f) next = Err f
-
-pub tested_passed : (f : Fault) (b : Bool) (u : Unit {0}) → Ok u ≡ tested f b → b ≡ true
-tested_passed f true u e = refl
-tested_passed f false u e = let z : ◌≡◌ {A = ℕ} 0 1 = cc in absurd (omega arith)
+-- the fault that a walk says, if any
+abbrev pub by_walk : Option Bool → Reading
+by_walk None = Err NotOneForm
+by_walk (Some sound) = tested BadNumber sound
 
 module _ (s : List ℕ) where
   pub too_long : 2000 < length s → reading_of s ≡ (Err TooLong)
   unfolding reading_of
   too_long p = rw (lt-ltb 2000 (length s) p)
 
-  in_order : (a b d : Bool) → cond (not a) (Err BadByte) (cond (not b) (Err NotOneForm) (cond (not d) (Err BadNumber) (Ok tt))) ≡ behind_it (tested BadByte a) (behind_it (tested NotOneForm b) (tested BadNumber d))
-  in_order false b d = refl
-  in_order true false d = refl
-  in_order true true false = refl
-  in_order true true true = refl
+  -- what one walk finds of a line whose bytes pass their tests
+  module _ (l : AllowedLine s) where
+    walk_by : (x y : Bool) (w : Option Bool) → one_form (deepest (tokens s)) s ≡ x → all sound_token (tokens s) ≡ y → cond x (Some y) None ≡ w → reading_of s ≡ by_walk w
+    unfolding reading_of
+    walk_by true y w e f g = rw (le-ltb 2000 (length s) l.long, l.bytes, e, f, ← g) (tests y)
+      where
+        tests : (y : Bool) → cond (not y) (Err BadNumber) (Ok tt) ≡ tested BadNumber y
+        tests true = refl
+        tests false = refl
+    walk_by false y w e f g = rw (le-ltb 2000 (length s) l.long, l.bytes, e, ← g) refl
 
-  pub reading_is : length s ≤ 2000 →
-      reading_of s ≡ behind_it (tested BadByte (list_all allowed s)) (behind_it (tested NotOneForm (one_form (deepest (tokens s)) s)) (tested BadNumber (all sound_token (tokens s))))
+    pub walk_reads : (w : Option Bool) → w ≡ cond (one_form (deepest (tokens s)) s) (Some (all sound_token (tokens s))) None → reading_of s ≡ by_walk w
+    walk_reads w e = walk_by (one_form (deepest (tokens s)) s) (all sound_token (tokens s)) w refl refl (sym e)
+
+  -- what the tests of the bytes find
+  pub bytes_pass : (u : Unit {0}) → bytes_tested s ≡ Ok u → AllowedLine s
+  bytes_pass u = by (ltb 2000 (length s)) (all allowed s) refl refl
+    where
+      by : (x y : Bool) → ltb 2000 (length s) ≡ x → all allowed s ≡ y → cond x (Err TooLong) (tested BadByte y) ≡ Ok u → AllowedLine s
+      by true y e f g = let z : ◌≡◌ {A = ℕ} 0 1 = cc in absurd (omega arith)
+      by false true e f g = record { long = ltb-false 2000 (length s) e; bytes = f }
+      by false false e f g = let z : ◌≡◌ {A = ℕ} 0 1 = cc in absurd (omega arith)
+
+  pub bytes_fail : (f : Fault) → bytes_tested s ≡ Err f → reading_of s ≡ Err f
   unfolding reading_of
-  reading_is p = rw (list_all_is allowed s, le-ltb 2000 (length s) p) (in_order (all allowed s) (one_form (deepest (tokens s)) s) (all sound_token (tokens s)))
+  bytes_fail f = by (ltb 2000 (length s)) (all allowed s) _
+    where
+      by : (x y : Bool) (next : Reading) → cond x (Err TooLong) (tested BadByte y) ≡ Err f → cond x (Err TooLong) (cond (not y) (Err BadByte) next) ≡ Err f
+      by true y next g = g
+      by false true next g = let z : ◌≡◌ {A = ℕ} 0 1 = cc in absurd (omega arith)
+      by false false next g = g
 
   module _ (p : length s ≤ 2000) where
     pub bad_byte : all allowed s ≡ false → reading_of s ≡ (Err BadByte)

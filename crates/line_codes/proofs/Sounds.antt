@@ -1,6 +1,7 @@
 -- Laws of the test that every number of a line is sound.
-use mathlib.Core.Path.{◌≡◌, refl, sym, ◌∙◌, ap}
+use mathlib.Core.Path.{◌≡◌, refl, ◌∙◌, ap}
 use mathlib.Core.Bool.{Bool, true, false, cond, ◌&&◌}
+use Rattle.std.proofs.Math.Bool.{and_assoc, and-true}
 use mathlib.Core.List.{List, [], ◌∷◌}
 use Prim.Native.Nat.{ℕ, suc}
 use native.Mathlib.Omega.{arith}
@@ -47,16 +48,12 @@ sound_number (x ∷ s) {b} {t} f e =
     let h : x ≡ b = cc in
     some_by (is_number (x ∷ s)) (value (x ∷ s)) ∙ rw (h, e)
 
--- a walk along the tokens: what is left of them passes exactly where the whole does
-module _ {ts : List Token} {whole : Bool} (left : all sound_token ts ≡ whole) where
-  pub sounds_stop : (t : Token) (us : List Token) → ts ≡ t ∷ us → false ≡ sound_token t → false ≡ whole
+-- a walk along the tokens: `found` says whether those passed are sound, and ts is what is left
+module _ (found : Bool) {ts : List Token} {whole : Bool} (left : (found && all sound_token ts) ≡ whole) where
+  pub sounds_on : (t : Token) (us : List Token) → ts ≡ t ∷ us → {here : Bool} → here ≡ sound_token t → (found && here && all sound_token us) ≡ whole
   unfolding all
-  sounds_stop t us e f = sym (rw (e, ← f)) ∙ left
+  sounds_on t us e {here} f = rw (and_assoc found here (all sound_token us), f, ← left, e)
 
-  pub sounds_on : (t : Token) (us : List Token) → ts ≡ t ∷ us → true ≡ sound_token t → all sound_token us ≡ whole
+  pub sounds_end : ts ≡ [] → found ≡ whole
   unfolding all
-  sounds_on t us e f = sym (rw (e, ← f)) ∙ left
-
-  pub sounds_end : ts ≡ [] → true ≡ whole
-  unfolding all
-  sounds_end e = sym (rw e) ∙ left
+  sounds_end e = rw (← left, e, and-true found)

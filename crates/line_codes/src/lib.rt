@@ -1,16 +1,19 @@
 // The tests of a whole line: codes 10 to 13.
 #![tactic(auto)]
 
-ghost use Rattle.std.specs.Prelude.{◌≡◌, true, cond, ◌-◌, leb};
+ghost use Rattle.std.specs.Prelude.{◌≡◌, true, cond, ◌-◌, leb, Some, None};
 ghost use Rattle.std.specs.List.{list_all};
 ghost use Rattle.whole.specs.Lists.{all};
 ghost use Rattle.text.specs.Token.{allowed, tokens};
 ghost use Rattle.text.specs.Front.{said};
-ghost use Rattle.line_codes.specs.declared.Fault.TheVariants.{BadByte, NotOneForm, BadNumber};
+ghost use Rattle.line_codes.specs.declared.Fault.TheVariants.{BadByte, BadNumber};
 ghost use Rattle.line_codes.specs.declared.Part.TheVariants.{Inside, Behind};
-ghost use Rattle.line_codes.specs.Line.{deepest, one_form, number_if_digit, sound_token, tested, reading_of, fault_code};
-ghost use Rattle.line_codes.specs.Parts.{PartIs};
+ghost use Rattle.line_codes.specs.Line.{is_behind, deepest, one_form, number_if_digit, sound_token, tested, reading_of, fault_code};
+ghost use Rattle.line_codes.specs.Alike.{AllowedLine};
+ghost use Rattle.line_codes.specs.Parts.{stand_of, PartIs, bytes_tested};
 
+use lanes::ByteTest;
+use std::simd::prelude::*;
 use text::Piece;
 
 // How long a line may be, in bytes; how deep its form may be nested, and behind the word `show`.
@@ -46,17 +49,27 @@ fn is_allowed(b: u8) -> bool
     text::is_in_run(b) || b == b' ' || b == b'(' || b == b')'
 }
 
-fn all_allowed(s: &[u8]) -> bool
-    ensures { result ≡ list_all allowed s.now }
-{
-    s.iter().all(|b| is_allowed(*b))
+// A byte that may stand in a line.
+struct MayStand;
+
+impl ByteTest for MayStand {
+    ghost passes = { allowed };
+
+    fn of_one(b: u8) -> bool {
+        is_allowed(b)
+    }
+
+    #[tactic(auto, using(lanes::proofs::Flags::either_four))]
+    fn of_eight(v: u8x8) -> u64 {
+        text::lanes_in_run(v) | lanes::same(v, b' ') | lanes::same(v, b'(') | lanes::same(v, b')')
+    }
 }
 
-// 11: every byte may stand in a line. The test is a function of its own: with the fault in it, the proof of its `all` did not close.
+// 11: every byte may stand in a line.
 fn only_allowed(s: &[u8]) -> Result<(), Fault>
     ensures { result ≡ tested BadByte (list_all allowed s.now) }
 {
-    if !all_allowed(s) {
+    if !lanes::all::<MayStand>(s) {
         return Err(Fault::BadByte);
     }
     Ok(())
@@ -107,20 +120,11 @@ fn behind(most: usize, part: Part, piece: Piece<'_>) -> Option<Part>
     }
 }
 
-// 12: a line of allowed bytes is one closed form, no deeper than its first word lets.
-fn one_form(s: &[u8]) -> Result<(), Fault>
-    requires { all allowed s.now ≡ true }
-    ensures { result ≡ tested NotOneForm (one_form (deepest (tokens s.now)) s.now) }
+// Whether a line that ends in this part is one closed form.
+fn is_behind(part: Part) -> bool
+    ensures { result ≡ is_behind (stand_of part) }
 {
-    let most = deepest(s);
-    let mut part = Part::Before;
-    for piece in text::pieces_of(s) {
-        part = behind(most, part, piece).ok_or(Fault::NotOneForm)?;
-    }
-    match part {
-        Part::Before | Part::Inside(_) => Err(Fault::NotOneForm),
-        Part::Behind => Ok(()),
-    }
+    matches!(part, Part::Behind)
 }
 
 // 13: whether a run that starts with a digit is a number.
@@ -143,28 +147,54 @@ fn is_sound(piece: Piece<'_>) -> bool
     }
 }
 
-// 13: every run of a line that starts with a digit is a number.
-fn all_sound(s: &[u8]) -> Result<(), Fault>
-    ensures { result ≡ tested BadNumber (all sound_token (tokens s.now)) }
+// One walk along a line of allowed bytes for both 12 and 13: none where it is not one closed form, no deeper than its first word lets; else whether every
+// run that starts with a digit is a number.
+fn walked(s: &[u8]) -> Option<bool>
+    requires { all allowed s.now ≡ true }
+    ensures { result ≡ cond (one_form (deepest (tokens s.now)) s.now) (Some (all sound_token (tokens s.now))) None }
 {
+    let most = deepest(s);
+    let mut part = Part::Before;
+    let mut sound = true;
     for piece in text::pieces_of(s) {
-        if !is_sound(piece) {
-            return Err(Fault::BadNumber);
-        }
+        part = behind(most, part, piece)?;
+        sound &= is_sound(piece);
+    }
+    if !is_behind(part) {
+        return None;
+    }
+    Some(sound)
+}
+
+// 13: every run that starts with a digit is a number.
+fn all_sound(sound: bool) -> Result<(), Fault>
+    ensures { result ≡ tested BadNumber sound }
+{
+    if !sound {
+        return Err(Fault::BadNumber);
     }
     Ok(())
 }
 
-// The first test that a line fails, each made over the entire line before the next.
-pub fn reading_of(line: &[u8]) -> Result<(), Fault>
-    ensures { result ≡ reading_of line.now }
+// The tests of a line's bytes, 10 and 11: the first that it fails.
+pub fn test_bytes(line: &[u8]) -> Result<(), Fault>
+    ensures { result ≡ bytes_tested line.now }
 {
     if LONGEST < line.len() {
         return Err(Fault::TooLong);
     }
-    only_allowed(line)?;
-    one_form(line)?;
-    all_sound(line)
+    only_allowed(line)
+}
+
+// The tests of the form, 12 and 13, over the entire line: the first that a line fails whose bytes pass theirs.
+pub fn test_form(line: &[u8]) -> Result<(), Fault>
+    requires { AllowedLine line.now }
+    ensures { result ≡ reading_of line.now }
+{
+    let Some(sound) = walked(line) else {
+        return Err(Fault::NotOneForm);
+    };
+    all_sound(sound)
 }
 
 // The paper's code for each fault: a table by its name, and no `From`, since no `?` would apply it.

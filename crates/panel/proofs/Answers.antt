@@ -9,6 +9,7 @@ use lib.ListN.{length}
 use borrow.Author.Tests.{lt-ltb, le-ltb, ltb-true, ltb-false}
 use Rattle.std.specs.Prelude.{Option, Some, None, option_map, Result, Ok, Err}
 use Rattle.line_codes.specs.declared.Fault.{Fault}
+use Rattle.line_codes.specs.declared.Fault.TheVariants.{TooLong, BadByte, NotOneForm, BadNumber, NoShape}
 use Rattle.text.specs.Token.{tokens}
 use Rattle.line_codes.specs.Line.{Reading, reading_of, fault_code}
 use Rattle.line_codes.proofs.Alike.{sound_passes}
@@ -17,7 +18,7 @@ use Rattle.forms.specs.Carried.{carried_request}
 use Rattle.request.specs.Shape.{request_of}
 use Rattle.condition.specs.declared.Condition.{Condition}
 use Rattle.operations.specs.Operations.{refused_with}
-use Rattle.hearing.specs.Hearing.{shaped, heard_by, heard_of}
+use Rattle.hearing.specs.Hearing.{shaped, heard_by, heard_of, heard_in}
 use Rattle.effects.specs.Effect.{effect_of}
 use Rattle.panel.specs.Step.{Outcome, answered, outcome_of, outcome_asked, outcome_after, step_of}
 use Rattle.panel.specs.Handed.{moment_found, handed_on}
@@ -55,41 +56,49 @@ module _ (c : Condition) (line : List ℕ) (n : ℕ) where
   unfolding step_of
   step_is h heard = rw (heard, heard_by_lem (reading_of line))
 
-  -- a line that is turned down changes nothing
+  -- the condition after an answer but 00: as it was
+  pub answer_kept : (code : ℕ) → code ≡ (step_of c line n).code → (code ≡ 0 → ⊥) → c ≡ (step_of c line n).after
+  answer_kept code coded f = sym ((right c line n).unchanged (λ e. f (coded ∙ e)))
+
+  -- 00 is answered with room for its reply
+  lent_room : (step_of c line n).code ≡ 0 → 96 ≤ n
+  lent_room e = by (ltb n 96) refl
+    where
+      by : (x : Bool) → ltb n 96 ≡ x → 96 ≤ n
+      by true t = absurd (omega (arith, ap (λ (o : Outcome). o.code) (step_none (ltb-true n 96 t)), e))
+      by false t = ltb-false n 96 t
+
+  -- and never to a line that is turned down
   module _ (f : Fault) (heard : Err f ≡ heard_of line) where
     pub step_refused : 96 ≤ n → step_of c line n ≡ answered (refused_with (fault_code f) c)
     step_refused p = step_is (Err f) heard ∙ rw (le-ltb n 96 p)
 
-    pub fault_kept : c ≡ (step_of c line n).after
-    fault_kept = rw (step_is (Err f) heard) (by (ltb n 96))
+    not_taken : (step_of c line n).code ≡ 0 → ⊥
+    not_taken e = by f (ap (λ (o : Outcome). o.code) (sym (step_refused (lent_room e))) ∙ e)
       where
-        by : (x : Bool) → c ≡ (cond x (record { code = 15; reply = []; after = c }) (outcome (Err f))).after
-        by true = refl
-        by false = refl
+        by : (f : Fault) → fault_code f ≡ 0 → ⊥
+        by TooLong e = absurd (omega (arith, e))
+        by BadByte e = absurd (omega (arith, e))
+        by NotOneForm e = absurd (omega (arith, e))
+        by BadNumber e = absurd (omega (arith, e))
+        by NoShape e = absurd (omega (arith, e))
+
+  -- so where the answer is 00, the lent memory holds the request
+  pub taken_heard : (r : Request) (h : Result (Unit {0}) Fault) → heard_in r h ≡ heard_of line → (step_of c line n).code ≡ 0 → Ok r ≡ heard_of line
+  taken_heard r (Ok u) heard e = heard
+  taken_heard r (Err f) heard e = absurd (not_taken f heard e)
 
   -- a request
   module _ (r : Request) (heard : Ok r ≡ heard_of line) where
     pub step_request : 96 ≤ n → step_of c line n ≡ outcome_of c (tokens line) n r
     step_request p = step_is (Ok r) heard ∙ rw (le-ltb n 96 p)
 
-    -- 00 is the answer to one, with room for its reply
-    lent_room : (step_of c line n).code ≡ 0 → 96 ≤ n
-    lent_room e = by (ltb n 96) refl
-      where
-        by : (x : Bool) → ltb n 96 ≡ x → 96 ≤ n
-        by true t = absurd (omega (arith, ap (λ (o : Outcome). o.code) (step_none (ltb-true n 96 t)), e))
-        by false t = ltb-false n 96 t
-
-    -- the condition after an answer: as it was, or by the request's effect
-    module _ (code : ℕ) (coded : code ≡ (step_of c line n).code) where
-      pub answer_kept : (code ≡ 0 → ⊥) → c ≡ (step_of c line n).after
-      answer_kept f = sym ((right c line n).unchanged (λ e. f (coded ∙ e)))
-
-      pub answer_effect : code ≡ 0 → (w : ℕ) → w ≡ handed_on (Ok r) n → (d : Condition) → d ≡ effect_of c r w → d ≡ (step_of c line n).after
-      answer_effect e w m d f =
-          let p = lent_room (sym coded ∙ e) in
-          let o = step_request p in
-          f ∙ ap (effect_of c r) (m ∙ handed_room r n p) ∙ effect_is c (tokens line) n r (ap (λ (o : Outcome). o.code) (sym o) ∙ sym coded ∙ e) ∙ ap (λ (o : Outcome). o.after) (sym o)
+    -- the condition after 00: by the request's effect
+    pub answer_effect : (step_of c line n).code ≡ 0 → (w : ℕ) → w ≡ handed_on (Ok r) n → (d : Condition) → d ≡ effect_of c r w → d ≡ (step_of c line n).after
+    answer_effect e w m d f =
+        let p = lent_room e in
+        let o = step_request p in
+        f ∙ ap (effect_of c r) (m ∙ handed_room r n p) ∙ effect_is c (tokens line) n r (ap (λ (o : Outcome). o.code) (sym o) ∙ e) ∙ ap (λ (o : Outcome). o.after) (sym o)
 
 -- ---- a line with a request passed the tests 10 to 13
 record HeardRequest (o : Option Request) (t : Reading) (r : Request) : Type 0 where

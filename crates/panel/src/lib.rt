@@ -6,7 +6,7 @@ ghost use Rattle.text.specs.Token.{tokens};
 ghost use Rattle.forms.specs.declared.Request.TheVariants.{ShowLine};
 ghost use Rattle.forms.specs.Carried.{carried_request};
 ghost use Rattle.request.specs.Shape.{request_of};
-ghost use Rattle.hearing.specs.Hearing.{heard_of};
+ghost use Rattle.hearing.specs.Hearing.{heard_in, heard_of};
 ghost use Rattle.grain.specs.Sum.{weighed_code, weighed_moment};
 ghost use Rattle.reply.specs.Replies.{answer_reply, total_reply};
 ghost use Rattle.operations.specs.Answers.{answer_code};
@@ -155,32 +155,38 @@ fn reply_to(c: &Condition, line: &[u8], r: &Request, out: &mut [u8]) -> Replied
 }
 
 // The reply to a line and what was heard of it, at the front of the lent buffer.
-pub fn answer(c: &Condition, line: &[u8], h: &Result<Request, Fault>, out: &mut [u8]) -> Replied
-    requires { h.now ≡ heard_of line.now }
-    ensures { Replies (step_of c.now line.now (length out.old)).code (step_of c.now line.now (length out.old)).reply (handed_on h.now (length out.old)) result out.old out.new }
+pub fn answer(
+    c: &Condition,
+    line: &[u8],
+    h: Result<(), Fault>,
+    request: &Request,
+    out: &mut [u8],
+) -> Replied
+    requires { heard_in request.now h ≡ heard_of line.now }
+    ensures { Replies (step_of c.now line.now (length out.old)).code (step_of c.now line.now (length out.old)).reply (handed_on (heard_of line.now) (length out.old)) result out.old out.new }
 {
     if out.len() < LEAST_ROOM {
         return plain_reply(NO_ROOM, 0);
     }
     match h {
-        Ok(request) => reply_to(c, line, request, out),
-        Err(fault) => answer_with(line_codes::fault_code(*fault), out),
+        Ok(()) => reply_to(c, line, request, out),
+        Err(fault) => answer_with(line_codes::fault_code(fault), out),
     }
 }
 
 // ---- the step
 
-// One line, in place: its reply at the front of the lent buffer, and its effect on the condition, which is large.
+// One line, in place: its reply at the front of the lent buffer, and its effect on the condition. A condition is large, and so is a request: the one that is read is
+// made here, and lent to all. A line that is turned down, which has no request, is never answered with 00.
 pub fn take(c: &mut Condition, line: &[u8], out: &mut [u8]) -> Replied
     ensures steps { Steps (step_of c.old line.now (length out.old)) (record { code = result.code; len = result.len; after = c.new }) out.old out.new }
     ensures moment { result.moment ≡ handed_on (heard_of line.now) (length out.old) }
 {
-    let h = hearing::hear(line);
-    let r = answer(c, line, &h, out);
-    if let Ok(request) = &h {
-        if r.code == TAKEN {
-            effects::effect(c, request, r.moment);
-        }
+    let mut request = Request::JudgeLine;
+    let h = hearing::hear(line, &mut request);
+    let r = answer(c, line, h, &request, out);
+    if r.code == TAKEN {
+        effects::effect(c, &request, r.moment);
     }
     r
 }

@@ -7,21 +7,19 @@ use lib.ListN.{length, take, drop, replicate, length-map, take-append-drop}
 use lib.Seq.{length-take-le}
 use Rattle.std.proofs.lemmas.List.{drop-replicate}
 use Rattle.record.specs.declared.Cell.{Cell}
-use Rattle.record.specs.declared.Slack.{Slack}
-use Rattle.record.specs.declared.Slack.TheVariants.{Undivided, Split}
 use Rattle.record.specs.declared.Part.{Part}
 use Rattle.record.specs.Filler.{no_cell, no_slack, padded}
 use Rattle.std.specs.Prelude.{Some}
 use Rattle.std.specs.Borrow.{Bor}
 use Rattle.text.specs.Token.{Token, tokens}
-use Rattle.items.specs.Grammar.{got, none, ◌and_then◌, head?, number?, nth, last_numbers?, several?}
+use Rattle.items.specs.Grammar.{got, none, ◌and_then◌, head?, number?, last_numbers?, several?}
 use Rattle.items.specs.Carried.{carry, carried}
 use Rattle.items.specs.Reads.{Fills}
 use Rattle.items.proofs.Walks.{carries, built, nth_kept, kept, several_built, several_unbuilt}
 use Rattle.parts.specs.declared.CellWord.{CellWord}
 use Rattle.parts.specs.declared.CellWord.TheVariants.{WingWord, HatchWord, VoidWord}
-use Rattle.parts.specs.Shape.{cell_named, numbers_of, cell_of, cell?, section_record, section?, slack_part, slack_record, slack?, split_record, split?}
-use Rattle.parts.specs.Carried.{carried_cell, carried_slack, carried_part}
+use Rattle.parts.specs.Shape.{cell_named, numbers_of, cell_of, cell?, section_record, section?, slack_record, slack?, split_record, split?}
+use Rattle.parts.specs.Carried.{carried_cell, carried_part}
 
 -- a cell of the numbers read, as it is carried
 cell_kept : (w : CellWord) (vs x : List ℕ) → vs ≡ map carried x → carried_cell (cell_of w x) ≡ cell_of w vs
@@ -67,18 +65,16 @@ module _ (ts : List Token) (v : ℕ) (us : List Token) (long : carry carried (nu
       rw i.is (several_built carried_cell cell? carried_part (section_record i.read) 8 us (take n cells) (tokens ws.now) _ e.0
       (λ xs m. section_kept i.read xs ∙ rw (← i.kept, ← length-map xs carried_cell, ← m, front.0, ← front.1)))
 
--- a part of the four sizes read, as it is carried: three of them make its slack
+-- a part of the four sizes read, as it is carried, whichever of them is which
 module _ (ts : List Token) (vs : List ℕ) (us : List Token) (e : carry (map carried) (last_numbers? 4 ts) ≡ got vs us) where
-  sizes_read : (f : ℕ → ℕ → ℕ → Slack) → ((a b c : ℕ) → carried_slack (f a b c) ≡ f (carried a) (carried b) (carried c)) →
-      let part : List ℕ → Part = λ v. slack_part (nth v 0) (f (nth v 1) (nth v 2) (nth v 3)) in
-      carry carried_part (last_numbers? 4 ts and_then λ v us. got (part v) us) ≡ got (part vs) us
-  unfolding padded
-  sizes_read f k =
-      built carried_part (λ v. slack_part (nth v 0) (f (nth v 1) (nth v 2) (nth v 3))) (map carried) (last_numbers? 4 ts) vs us _ e
-      (λ x m. rw (k (nth x 1) (nth x 2) (nth x 3), nth_kept vs x 0 m, nth_kept vs x 1 m, nth_kept vs x 2 m, nth_kept vs x 3 m))
+  sizes_read : (mk : List ℕ → Part) → ((x : List ℕ) → vs ≡ map carried x → carried_part (mk x) ≡ mk vs) →
+      carry carried_part (last_numbers? 4 ts and_then λ v us. got (mk v) us) ≡ got (mk vs) us
+  sizes_read mk k = built carried_part mk (map carried) (last_numbers? 4 ts) vs us (mk vs) e k
 
   pub slack_read : carry carried_part (slack? ts) ≡ got (slack_record vs) us
-  slack_read = sizes_read Undivided (λ a b c. refl)
+  unfolding padded
+  slack_read = sizes_read slack_record (λ x m. rw (nth_kept vs x 0 m, nth_kept vs x 1 m, nth_kept vs x 2 m, nth_kept vs x 3 m))
 
   pub split_read : carry carried_part (split? ts) ≡ got (split_record vs) us
-  split_read = sizes_read Split (λ a b c. refl)
+  unfolding padded
+  split_read = sizes_read split_record (λ x m. rw (nth_kept vs x 0 m, nth_kept vs x 1 m, nth_kept vs x 2 m, nth_kept vs x 3 m))

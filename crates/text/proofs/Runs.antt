@@ -1,21 +1,17 @@
 -- Laws of tokens.
 use mathlib.Core.Path.{◌≡◌, refl, sym, ap, ◌∙◌}
-use mathlib.Core.Bool.{Bool, true, false, not, ◌&&◌, ◌||◌}
+use mathlib.Core.Bool.{Bool, true, false, ◌&&◌}
 use mathlib.Core.List.{List, [], ◌∷◌}
 use Prim.Native.Nat.{ℕ, suc, ◌+◌, ◌<◌}
 use native.Mathlib.Omega.{arith}
 use lib.Dec.{eqb}
 use lib.Pointwise.{pointwise}
-use lib.ListN.{length, get_or, take, drop, length-drop}
-use lib.Seq.{get_or-drop}
+use lib.ListN.{length, take, drop}
 use Rattle.whole.specs.Lists.{within}
-use borrow.Author.Tests.{ne_eqb, eqb-true, not-true, not-false}
+use borrow.Author.Tests.{ne_eqb, eqb-true}
 use Rattle.text.specs.Token.{opened, closed, run, in_run, starts_run, glue, tokens, same}
 use Rattle.text.specs.Token.{RunRule, run_length}
-use Rattle.text.specs.Front.{starts_token, gap}
 use Rattle.whole.proofs.Lists.{clash, and_true}
-use Rattle.std.proofs.lemmas.List.Sums.{prefix_len_stops}
-use Rattle.text.proofs.Fronts.{prefix_over}
 
 pub no_run : (s : List ℕ) → starts_run s ≡ false → run_length s ≡ 0
 no_run [] e = refl
@@ -56,67 +52,34 @@ same_pointwise (x ∷ a) (y ∷ b) = ap (◌&&◌ (eqb x y)) (same_pointwise a b
 pub same_slices : (a w : List ℕ) {b : List ℕ} {x : Bool} → b ≡ w → x ≡ pointwise eqb a b → same a w ≡ x
 same_slices a w e f = sym (f ∙ ap (pointwise eqb a) e ∙ same_pointwise a w)
 
--- bytes that begin no token change nothing
-no_token : (b : ℕ) (s : List ℕ) (x y z : Bool) → in_run b ≡ x → eqb b 40 ≡ y → eqb b 41 ≡ z → (x || y || z) ≡ false → tokens (b ∷ s) ≡ tokens s
-unfolding tokens
-no_token b s false false false e f g h = rw (e, f, g)
-no_token b s true y z e f g h =
-    let w : ◌≡◌ {A = ℕ} 0 1 = cc in absurd (omega arith)
-no_token b s false true z e f g h =
-    let w : ◌≡◌ {A = ℕ} 0 1 = cc in absurd (omega arith)
-no_token b s false false true e f g h =
-    let w : ◌≡◌ {A = ℕ} 0 1 = cc in absurd (omega arith)
-
-in_run_else : (b : ℕ) → starts_token b ≡ true → (b ≡ 40 → ⊥) → (b ≡ 41 → ⊥) → in_run b ≡ true
-in_run_else b e p q = by (in_run b) (eqb b 40) (eqb b 41) (ne_eqb b 40 p) (ne_eqb b 41 q) e
-  where
-    by : (x y z : Bool) → y ≡ false → z ≡ false → (x || y || z) ≡ true → x ≡ true
-    by true y z f g h = refl
-    by false true z f g h = sym f
-    by false false z f g h = sym g ∙ h
-
 -- no bytes, no tokens
 nothing : (u : List ℕ) → length u ≡ 0 → tokens u ≡ []
 unfolding tokens
 nothing [] e = refl
 nothing (b ∷ u) e = absurd (omega arith)
 
--- ---- the first token stands behind the gap: s is what is left of a line, and t the same behind the gap
-module _ (s t : List ℕ) (there : t ≡ drop (gap s) s) where
-  to_token : tokens s ≡ tokens t
-  to_token = rw there (prefix_over (λ b. not (starts_token b)) tokens (λ b u e. no_token b u (in_run b) (eqb b 40) (eqb b 41) refl refl refl (not-true _ e)) s)
-
+-- ---- t is what is left of s behind bytes that begin no token
+module _ (s t : List ℕ) (there : tokens s ≡ tokens t) where
   pub none_left : length t ≡ 0 → tokens s ≡ []
-  none_left e = to_token ∙ nothing t e
+  none_left e = there ∙ nothing t e
 
   module _ (b : ℕ) (r : List ℕ) (front : t ≡ b ∷ r) where
     pub opening_left : b ≡ 40 → tokens s ≡ opened ∷ tokens r
     unfolding tokens within
-    opening_left e = to_token ∙ rw (front, e)
+    opening_left e = there ∙ rw (front, e)
 
     pub closing_left : b ≡ 41 → tokens s ≡ closed ∷ tokens r
     unfolding tokens within
-    closing_left e = to_token ∙ rw (front, e)
+    closing_left e = there ∙ rw (front, e)
 
-    stopped : not (starts_token (get_or s (gap s) 0)) ≡ false
-    stopped =
-        let n = length-drop (gap s) s in
-        let e = ap length (sym there ∙ front) in
-        prefix_len_stops (λ b. not (starts_token b)) s 0 (omega arith)
+    pub byte_over : in_run b ≡ false → (b ≡ 40 → ⊥) → (b ≡ 41 → ⊥) → tokens s ≡ tokens r
+    unfolding tokens
+    byte_over e x y = there ∙ rw (front, e, ne_eqb b 40 x, ne_eqb b 41 y)
 
-    starts_there : starts_token b ≡ true
-    starts_there =
-        let n : gap s + 0 ≡ gap s = omega arith in
-        let e : get_or s (gap s) 0 ≡ b = rw n at (sym (get_or-drop (gap s) s 0 0)) ∙ ap (λ (l : List ℕ). get_or l 0 0) (sym there ∙ front) in
-        rw e at (not-false _ stopped)
-
-    module _ (x : b ≡ 40 → ⊥) (y : b ≡ 41 → ⊥) where
-      of_run : in_run b ≡ true
-      of_run = in_run_else b starts_there x y
-
+    module _ (of_run : in_run b ≡ true) where
       -- the run of k bytes is w, and u is what is left behind it
       pub run_left : (k : ℕ) (w u : List ℕ) → k ≡ run_length t → w ≡ take k t → u ≡ drop k t → tokens s ≡ run w ∷ tokens u
-      run_left k w u e f g = rw (f, g, e) (to_token ∙ run_token t (rw front of_run))
+      run_left k w u e f g = rw (f, g, e) (there ∙ run_token t (rw (front, of_run)))
 
       pub run_has_bytes : 0 < run_length t
       run_has_bytes = rw (front, of_run) (omega arith)

@@ -12,13 +12,13 @@ drop_tail n s p =
     let k : n ≡ length s - length (drop n s) = rw (length-drop n s) (omega arith) in
     ap (λ i. drop i s) k
 
--- t is what is left of s behind k bytes
-module _ (s t : List ℕ) (k : ℕ) (fits : k ≤ length s) (there : t ≡ drop k s) where
-  -- and u what is left of t behind m more
+-- t is a tail of s
+module _ (s t : List ℕ) (fits : length t ≤ length s) (tail : TailOf t s) where
+  -- and u what is left of t behind m bytes
   pub left_tail : (m : ℕ) (u : List ℕ) → m ≤ length t → u ≡ drop m t → TailOf u s
   left_tail m u p e =
-      let n : length t ≡ length s - k = ap length there ∙ length-drop k s in
-      let both : u ≡ drop (k + m) s = e ∙ ap (drop m) there ∙ drop-drop m k s in
+      let k = length s - length t in
+      let both : u ≡ drop (k + m) s = e ∙ ap (drop m) tail ∙ drop-drop m k s in
       rw both (drop_tail (k + m) s (omega arith))
 
   pub behind_tail : (b : ℕ) (u : List ℕ) → t ≡ b ∷ u → TailOf u s

@@ -1,24 +1,15 @@
 -- The front of what is left of a line, as the reader takes it.
-use Rattle.std.specs.Prelude.{◌≡◌, Bool, cond, not, ◌&&◌, ◌||◌, List, [], ◌∷◌, ℕ, ◌-◌, eqb, leb, length, drop, Option, Some, None}
+use Rattle.std.specs.Prelude.{◌≡◌, cond, ◌&&◌, List, [], ◌∷◌, ℕ, ◌-◌, leb, length, drop, Option, Some, None}
 use Rattle.std.specs.Borrow.{Bor}
-use Rattle.std.specs.List.{prefix_len}
 use Rattle.whole.specs.Lists.{all}
 use Rattle.text.specs.declared.Piece.{Piece}
 use Rattle.text.specs.declared.Pieces.{Pieces}
 use Rattle.text.specs.declared.Piece.TheVariants.{Open, Close, Run}
-use Rattle.text.specs.Token.{opening, closing, is_digit, in_run, value_from, greatest_number, Token, opened, closed, run, tokens}
+use Rattle.text.specs.Token.{is_digit, value_from, greatest_number, Token, opened, closed, run, tokens}
 
 -- the number that digits say behind the value v, a zero in front or not
 unfoldable pub digits_from : ℕ → List ℕ → Option ℕ
 digits_from v s = cond (all is_digit s && leb (value_from v s) greatest_number) (Some (value_from v s)) None
-
--- a token begins at this byte
-abbrev pub starts_token : ℕ → Bool
-starts_token b = in_run b || eqb b opening || eqb b closing
-
--- how many bytes in front begin no token: spaces, and what no line may have
-abbrev pub gap : List ℕ → ℕ
-gap s = prefix_len (λ b. not (starts_token b)) s
 
 -- the token that a piece of the line is
 abbrev pub said : Piece → Token

@@ -1,10 +1,14 @@
 // A line's bytes, brackets, runs and numbers.
 #![tactic(auto)]
 
-ghost use Rattle.std.specs.Prelude.{◌≡◌, ◌||◌, ◌<◌, ◌≤◌, length, IfSome};
+ghost use Rattle.std.specs.Prelude.{◌≡◌, ◌<◌, ◌≤◌, length, IfSome};
+ghost use Rattle.lanes.specs.Flags.{flags};
 ghost use Rattle.text.specs.Token.{is_digit, in_run, number_of, tokens, run_length};
 ghost use Rattle.std.specs.Iterator.{YieldsFirstBy, item_count};
-ghost use Rattle.text.specs.Front.{starts_token, gap, digits_from, said, led_by, left_of, TailOf};
+ghost use Rattle.text.specs.Front.{digits_from, said, led_by, left_of, TailOf};
+
+use lanes::ByteTest;
+use std::simd::prelude::*;
 
 // The greatest number.
 const GREATEST_NUMBER: u64 = 999999999;
@@ -37,44 +41,60 @@ pub fn is_in_run(b: u8) -> bool
     b.is_ascii_lowercase() || is_digit(b)
 }
 
-fn starts_token(b: u8) -> bool
-    ensures { result ≡ starts_token b }
+// Which of eight bytes are bytes of a run.
+#[inline(always)]
+#[tactic(auto, using(lanes::proofs::Flags::either_flags))]
+pub fn lanes_in_run(v: u8x8) -> u64
+    ensures { result ≡ flags in_run v }
 {
-    is_in_run(b) || b == b'(' || b == b')'
+    lanes::inside(v, b'a', b'z') | lanes::inside(v, b'0', b'9')
 }
 
-// How many bytes the run in front has. This count and the next differ in their tests alone, and a function that takes the test would be as long as each.
+// A byte of a run.
+struct OfRun;
+
+impl ByteTest for OfRun {
+    ghost passes = { in_run };
+
+    fn of_one(b: u8) -> bool {
+        is_in_run(b)
+    }
+
+    fn of_eight(v: u8x8) -> u64 {
+        lanes_in_run(v)
+    }
+}
+
+// How many bytes the run in front has.
 fn run_length(s: &[u8]) -> usize
     ensures value { result ≡ run_length s.now }
     ensures upper_bound { result ≤ length s.now }
 {
-    s.iter().take_while(|b| is_in_run(**b)).count()
+    lanes::front::<OfRun>(s)
 }
 
-// How many bytes in front begin no token.
-fn gap(s: &[u8]) -> usize
-    ensures value { result ≡ gap s.now }
-    ensures upper_bound { result ≤ length s.now }
-{
-    s.iter().take_while(|b| !starts_token(**b)).count()
-}
-
-// The first bracket or run of a text, and what is left behind it.
+// The first bracket or run of a text, and what is left behind it. Inlined always: its answer is six words, which a call hands back in memory.
+#[inline(always)]
 pub fn first_piece<'a>(s: &'a [u8]) -> Read<'a, Piece<'a>>
     ensures read { tokens s.now ≡ led_by result }
     ensures shorter { IfSome result (λ r. length r.1.now < length s.now) }
     ensures tail { IfSome result (λ r. TailOf r.1.now s.now) }
 {
-    let (_, t) = s.split_at(gap(s));
-    let (b, behind) = t.split_first()?;
-    if *b == b'(' {
-        return Some((Piece::Open, behind));
+    let mut left = s;
+    while let Some((b, behind)) = left.split_first() {
+        if is_in_run(*b) {
+            let (run, rest) = left.split_at(run_length(left));
+            return Some((Piece::Run(run), rest));
+        }
+        if *b == b'(' {
+            return Some((Piece::Open, behind));
+        }
+        if *b == b')' {
+            return Some((Piece::Close, behind));
+        }
+        left = behind;
     }
-    if *b == b')' {
-        return Some((Piece::Close, behind));
-    }
-    let (run, rest) = t.split_at(run_length(t));
-    Some((Piece::Run(run), rest))
+    None
 }
 
 // The brackets and runs of a text that are left, in their order.

@@ -1,7 +1,7 @@
 -- `ship`: `RULE EDGE FLOOD)`.
 use Rattle.forms.specs.Carried.{carried_request}
 use mathlib.Core.List.{map}
-use mathlib.Core.Path.{◌≡◌, sym, ◌∙◌}
+use mathlib.Core.Path.{◌≡◌, refl, sym, ◌∙◌}
 use Rattle.std.specs.Prelude.{Some}
 use Rattle.text.specs.Token.{tokens}
 use Rattle.items.specs.Grammar.{last_numbers?, nth}
@@ -19,4 +19,4 @@ returns c =
     let v = c.in_ok-edge.field-0-0 in
     let n : rule_named r.word.now ≡ Some w = sym c.rule_named.ensures ∙ c.in_ok-word-2.was in
     rw (r.ensures, n) (built carried_request (ship_request w) (map carried) (last_numbers? 2 (tokens r.rest.now)) v (tokens c.in_ok-edge.rest.now) _ c.in_ok-edge.ensures
-    (λ x e. rw (c.rule_of.ensures, rule_kept w (nth x 0), nth_kept v x 0 e, nth_kept v x 1 e)))
+    (λ x e. rw (c.rule_of.ensures, rule_kept w (nth x 0), nth_kept v x 0 e, nth_kept v x 1 e) refl))

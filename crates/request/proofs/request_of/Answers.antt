@@ -1,27 +1,27 @@
 -- `request_of`: the request of a line, with nothing behind it.
-use mathlib.Core.Path.{sym, ap, ◌∙◌}
-use Rattle.std.specs.Prelude.{Some}
-use Rattle.text.specs.Token.{tokens}
+use Rattle.std.proofs.Common.{◌≡◌, Some, None, cond, option_map, Bool, true, false, List}
+use mathlib.Core.Path.{refl, ap}
+use Rattle.text.specs.Token.{Token, tokens}
+use Rattle.items.specs.Grammar.{got, whole?}
+use Rattle.items.specs.Reads.{is_end}
 use Rattle.items.proofs.Walks.{carries, carries_none, whole_end, whole_more}
+use Rattle.forms.specs.declared.Request.{Request}
 use Rattle.forms.specs.Carried.{carried_request}
 use Rattle.request.specs.Shape.{line?, request_of}
 use Rattle.request.proofs.request_of.Goals as goal
 
-pub returns-in_err-request : goal.returns-in_err-request
+pub returns-in_default : goal.returns-in_default
 unfolding request_of
-returns-in_err-request c =
-    rw (c.from_residual.ensures, carries_none carried_request (line? (tokens c.args.line.now)) c.in_err-request.ensures)
+returns-in_default c = rw (carries_none carried_request (line? (tokens c.args.line.now)) c.in_default.ensures)
 
-pub returns-then-is_end : goal.returns-then-is_end
-unfolding request_of
-returns-then-is_end c =
-    let us = tokens c.in_ok-request.rest.now in
-    let i = carries carried_request (line? (tokens c.args.line.now)) c.in_ok-request.request us c.in_ok-request.ensures in
-    rw (i.is, whole_end i.read us (sym c.is_end.ensures ∙ c.if-is_end.true)) (ap Some i.kept)
+-- what was read, by whether it is the whole line
+whole_if_end : (a b : Request) (us : List Token) → b ≡ carried_request a → (x : Bool) → is_end us ≡ x → cond x (Some b) None ≡ option_map carried_request (whole? (got a us))
+whole_if_end a b us k true e = rw (whole_end a us e) (ap Some k)
+whole_if_end a b us k false e = rw (whole_more a us e)
 
 pub returns : goal.returns
 unfolding request_of
 returns c =
-    let us = tokens c.in_ok-request.rest.now in
-    let i = carries carried_request (line? (tokens c.args.line.now)) c.in_ok-request.request us c.in_ok-request.ensures in
-    rw (i.is, whole_more i.read us (sym c.is_end.ensures ∙ c.if-is_end.false))
+    let us = tokens c.in-Some.rest.now in
+    let i = carries carried_request (line? (tokens c.args.line.now)) c.read_line.new.request us c.in-Some.ensures in
+    rw (i.is, c.is_end.ensures) (whole_if_end i.read _ us i.kept (is_end us) refl)

@@ -1,5 +1,5 @@
 -- `show`: `FORM)`.
-use mathlib.Core.Path.{sym, ◌∙◌}
+use mathlib.Core.Path.{sym}
 use Rattle.text.specs.Token.{tokens}
 use Rattle.request.proofs.Shown.{show_none, show_read}
 use Rattle.request.proofs.show.Goals as goal
@@ -10,4 +10,4 @@ returns-in_err-rest c =
 
 pub returns : goal.returns
 returns c =
-    show_read (tokens c.args.s.now) c.in_ok-word.ensures (sym c.in_ok-form.ensures) _ _ c.in_ok-rest.ensures ∙ c.bare.ensures
+    show_read (tokens c.args.s.now) c.in_ok-word.ensures (sym c.in_ok-form.ensures) _ _ _ c.in_ok-rest.ensures c.close.ensures

@@ -1,5 +1,6 @@
 -- `weighed`: `FS)`.
 use mathlib.Core.List.{map}
+use mathlib.Core.Path.{refl}
 use Rattle.record.specs.declared.Weighing.TheVariants.{Weighed}
 use Rattle.text.specs.Token.{tokens}
 use Rattle.items.specs.Grammar.{nth, last_numbers?}
@@ -14,4 +15,4 @@ unfolding carried_request
 returns c =
     let r = c.in_ok-fs in
     built carried_request (λ x. WeighingLine (Weighed (nth x 0))) (map carried) (last_numbers? 1 (tokens c.args.s.now)) r.field-0-0 (tokens r.rest.now) _ r.ensures
-    (λ x e. rw (nth_kept r.field-0-0 x 0 e))
+    (λ x e. rw (nth_kept r.field-0-0 x 0 e) refl)
