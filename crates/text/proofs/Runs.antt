@@ -6,11 +6,12 @@ use Prim.Native.Nat.{ℕ, suc, ◌+◌, ◌<◌}
 use native.Mathlib.Omega.{arith}
 use lib.Dec.{eqb}
 use lib.Pointwise.{pointwise}
-use lib.ListN.{length, take, drop}
+use lib.ListN.{length, take, drop, drop_of_length-le}
 use Rattle.whole.specs.Lists.{within}
 use borrow.Author.Tests.{ne_eqb, eqb-true}
-use Rattle.text.specs.Token.{opened, closed, run, in_run, starts_run, glue, tokens, same}
+use Rattle.text.specs.Token.{opening, closing, opened, closed, run, in_run, starts_run, glue, tokens, same}
 use Rattle.text.specs.Token.{RunRule, run_length}
+use Rattle.text.specs.Front.{gap}
 use Rattle.whole.proofs.Lists.{clash, and_true}
 
 pub no_run : (s : List ℕ) → starts_run s ≡ false → run_length s ≡ 0
@@ -83,3 +84,29 @@ module _ (s t : List ℕ) (there : tokens s ≡ tokens t) where
 
       pub run_has_bytes : 0 < run_length t
       run_has_bytes = rw (front, of_run) (omega arith)
+
+-- ---- the place of the first piece: t is what is left of s behind bytes that begin no token
+module _ (s t : List ℕ) (there : drop (gap s) s ≡ drop (gap t) t) where
+  pub none_placed : length t ≡ 0 → drop (gap s) s ≡ []
+  none_placed e = there ∙ drop_of_length-le t {i = gap t} (omega arith)
+
+  module _ (b : ℕ) (r : List ℕ) (front : t ≡ b ∷ r) where
+    pub opening_placed : b ≡ 40 → drop (gap s) s ≡ opening ∷ r
+    unfolding within
+    opening_placed e = there ∙ rw (front, e)
+
+    pub closing_placed : b ≡ 41 → drop (gap s) s ≡ closing ∷ r
+    unfolding within
+    closing_placed e = there ∙ rw (front, e)
+
+    pub place_over : in_run b ≡ false → (b ≡ 40 → ⊥) → (b ≡ 41 → ⊥) → drop (gap s) s ≡ drop (gap r) r
+    place_over e x y =
+        let k : 1 + gap r ≡ suc (gap r) = omega arith in
+        there ∙ rw (front, e, ne_eqb b 40 x, ne_eqb b 41 y, k)
+
+    -- the run of k bytes is w, and u is what is left behind it
+    pub run_placed : in_run b ≡ true → (k : ℕ) (w u : List ℕ) → k ≡ run_length t → w ≡ take k t → u ≡ drop k t →
+        (w ≡ take (run_length (drop (gap s) s)) (drop (gap s) s)) × (u ≡ drop (run_length (drop (gap s) s)) (drop (gap s) s))
+    run_placed of_run k w u e f g =
+        let h : drop (gap s) s ≡ t = there ∙ rw (front, of_run) in
+        rw (h, ← e) (f, g)

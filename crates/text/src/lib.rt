@@ -5,7 +5,7 @@ ghost use Rattle.std.specs.Prelude.{◌≡◌, ◌<◌, ◌≤◌, length, IfSom
 ghost use Rattle.lanes.specs.Flags.{flags};
 ghost use Rattle.text.specs.Token.{is_digit, in_run, number_of, tokens, run_length};
 ghost use Rattle.std.specs.Iterator.{YieldsFirstBy, item_count};
-ghost use Rattle.text.specs.Front.{digits_from, said, led_by, left_of, TailOf};
+ghost use Rattle.text.specs.Front.{digits_from, said, led_by, left_of, TailOf, PlacedAt};
 
 use lanes::ByteTest;
 use std::simd::prelude::*;
@@ -79,6 +79,7 @@ pub fn first_piece<'a>(s: &'a [u8]) -> Read<'a, Piece<'a>>
     ensures read { tokens s.now ≡ led_by result }
     ensures shorter { IfSome result (λ r. length r.1.now < length s.now) }
     ensures tail { IfSome result (λ r. TailOf r.1.now s.now) }
+    ensures place { PlacedAt s.now result }
 {
     let mut left = s;
     while let Some((b, behind)) = left.split_first() {
