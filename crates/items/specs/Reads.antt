@@ -1,8 +1,10 @@
--- What each reading step answers, said of the tokens that are left of the line. Left free, since no answer to a line depends on it: how many of the
--- spaces in front of the next token are still left.
-use Rattle.std.specs.Prelude.{◌≡◌, take, drop, Bool, true, false, cond, List, [], ◌∷◌, ℕ, Option, Some, None}
+-- What each reading step answers, said of the tokens that are left of the line. That what is left is a tail of the very line each step says besides
+-- (`TailOf`, text/specs/Front.antt), and of a run that it stands just in front of what is left. Left free, since no answer to a line depends on it:
+-- how many of the spaces, or of other bytes that begin no token, are still left in front of the next token.
+use Rattle.std.specs.Prelude.{◌≡◌, take, drop, Bool, true, false, cond, List, [], ◌∷◌, ℕ, Option, Some, None, IfSome}
 use Rattle.std.specs.Borrow.{Bor}
 use Rattle.text.specs.Token.{Token, tokens, same}
+use Rattle.text.specs.Front.{TailOf}
 use Rattle.items.specs.Grammar.{Parsed, got, none}
 
 -- a was read, and these bytes are left behind it
@@ -23,6 +25,10 @@ passed_of None = none
 -- a reader of items answers as this shape says
 abbrev pub ReadsBy : {A : Type 0} → (Bor (List ℕ) → Option (A × Bor (List ℕ)) → Type 0) → (List Token → Parsed A) → Type 0
 ReadsBy answers item? = (s : Bor (List ℕ)) (r : _) → answers s r → item? (tokens s.now) ≡ read_of r
+
+-- what such a reader leaves is a tail of what it was given
+abbrev pub LeavesTail : {A : Type 0} → (Bor (List ℕ) → Option (A × Bor (List ℕ)) → Type 0) → Type 0
+LeavesTail answers = (s : Bor (List ℕ)) (r : _) → answers s r → IfSome r (λ x. TailOf x.1.now s.now)
 
 -- the first n places hold the items that were read, and the others what they held
 abbrev pub Fills : {A : Type 0} → Parsed (List A) → (old new : List A) → Option (ℕ × Bor (List ℕ)) → Type 0

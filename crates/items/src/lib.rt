@@ -1,17 +1,19 @@
 // Brackets, runs and numbers at the front of what is left of a line, each with what is left behind it.
 #![tactic(auto)]
 
-ghost use Rattle.std.specs.Prelude.{◌≡◌, map, ◌≤◌, length, IfSome, List};
+ghost use Rattle.std.specs.Prelude.{◌≡◌, map, ◌≤◌, length, IfSome, List, ◌++◌};
 ghost use Rattle.text.specs.Token.{Token, tokens};
+ghost use Rattle.text.specs.Front.{TailOf};
 ghost use Rattle.items.specs.Grammar.{Parsed, open?, close?, run?, head?, number?, last_numbers?, several?};
 ghost use Rattle.items.specs.Carried.{carry, carried};
-ghost use Rattle.items.specs.Reads.{is_end, found, passed_of, run_of, read_of, ReadsBy, Fills};
+ghost use Rattle.items.specs.Reads.{is_end, found, passed_of, run_of, read_of, ReadsBy, LeavesTail, Fills};
 
 use text::{Piece, Read};
 
 // An opening bracket. This and `close` are two, one case of a `match` each: one function of the piece would need an `==` of pieces.
 pub fn open(s: &[u8]) -> Option<&[u8]>
-    ensures { open? (tokens s.now) ≡ passed_of result }
+    ensures read { open? (tokens s.now) ≡ passed_of result }
+    ensures tail { IfSome result (λ r. TailOf r.now s.now) }
 {
     match text::first_piece(s)? {
         (Piece::Open, rest) => Some(rest),
@@ -21,7 +23,8 @@ pub fn open(s: &[u8]) -> Option<&[u8]>
 
 // A closing bracket.
 pub fn close(s: &[u8]) -> Option<&[u8]>
-    ensures { close? (tokens s.now) ≡ passed_of result }
+    ensures read { close? (tokens s.now) ≡ passed_of result }
+    ensures tail { IfSome result (λ r. TailOf r.now s.now) }
 {
     match text::first_piece(s)? {
         (Piece::Close, rest) => Some(rest),
@@ -31,7 +34,9 @@ pub fn close(s: &[u8]) -> Option<&[u8]>
 
 // A run.
 pub fn run(s: &[u8]) -> Read<'_, &[u8]>
-    ensures { run? (tokens s.now) ≡ run_of result }
+    ensures read { run? (tokens s.now) ≡ run_of result }
+    ensures together { IfSome result (λ r. TailOf (r.0.now ++ r.1.now) s.now) }
+    ensures tail { IfSome result (λ r. TailOf r.1.now s.now) }
 {
     match text::first_piece(s)? {
         (Piece::Run(word), rest) => Some((word, rest)),
@@ -41,7 +46,9 @@ pub fn run(s: &[u8]) -> Read<'_, &[u8]>
 
 // A form's opening bracket and the run behind it.
 pub fn head(s: &[u8]) -> Read<'_, &[u8]>
-    ensures { head? (tokens s.now) ≡ run_of result }
+    ensures read { head? (tokens s.now) ≡ run_of result }
+    ensures together { IfSome result (λ r. TailOf (r.0.now ++ r.1.now) s.now) }
+    ensures tail { IfSome result (λ r. TailOf r.1.now s.now) }
 {
     let rest = open(s)?;
     run(rest)
@@ -49,7 +56,8 @@ pub fn head(s: &[u8]) -> Read<'_, &[u8]>
 
 // A number.
 pub fn number(s: &[u8]) -> Read<'_, u32>
-    ensures { number? (tokens s.now) ≡ read_of result }
+    ensures read { number? (tokens s.now) ≡ read_of result }
+    ensures tail { IfSome result (λ r. TailOf r.1.now s.now) }
 {
     let (word, rest) = run(s)?;
     let v = text::number_of(word)?;
@@ -65,7 +73,8 @@ fn as_field(v: u32) -> u16
 
 // A number as its field carries it.
 pub fn size(s: &[u8]) -> Read<'_, u16>
-    ensures { carry carried (number? (tokens s.now)) ≡ read_of result }
+    ensures read { carry carried (number? (tokens s.now)) ≡ read_of result }
+    ensures tail { IfSome result (λ r. TailOf r.1.now s.now) }
 {
     let (v, rest) = number(s)?;
     Some((as_field(v), rest))
@@ -73,7 +82,8 @@ pub fn size(s: &[u8]) -> Read<'_, u16>
 
 // The last numbers of a form, and its closing bracket.
 pub fn last_sizes<const N: usize>(s: &[u8]) -> Read<'_, [u16; N]>
-    ensures { carry (map carried) (last_numbers? N (tokens s.now)) ≡ read_of result }
+    ensures read { carry (map carried) (last_numbers? N (tokens s.now)) ≡ read_of result }
+    ensures tail { IfSome result (λ r. TailOf r.1.now s.now) }
 {
     let mut values = [0u16; N];
     let mut rest = s;
@@ -95,6 +105,7 @@ pub fn several<'a, T: Copy, F: Fn(&'a [u8]) -> Read<'a, T>>(
     requires { F.IsAlwaysCallable item }
     ensures count { IfSome result (λ r. r.0 ≤ length places.old) }
     ensures filled { (item? : List Token → Parsed T) → ReadsBy (F.post item) item? → Fills (several? (length places.old) item? (tokens s.now)) places.old places.new result }
+    ensures tail { LeavesTail (F.post item) → IfSome result (λ r. TailOf r.1.now s.now) }
 {
     let mut rest = s;
     let mut n = 0;

@@ -7,6 +7,7 @@ use mathlib.Core.List.{append-nil}
 use lib.ListN.{take, drop, set, length-set}
 use lib.Seq.{take-suc-set, drop-set-lt, drop-drop, length-take-le}
 use Rattle.text.specs.Token.{tokens}
+use Rattle.text.proofs.Tails.{tail_tail}
 use Rattle.items.specs.Grammar.{close?, items?, none}
 use Rattle.items.proofs.Walks.{ahead_one, items_closed, items_full, items_stop, items_next, some_more}
 use Rattle.items.proofs.several.Goals.{then-loop-n-test+else-is_none, else-loop-n-test}
@@ -38,6 +39,7 @@ loop-n-preserved g c =
       read = λ item? reads.
           loop.invariant.read item? reads
           ∙ rw (items_next item? (most - n) ts more x us (omega arith) (reads loop.rest (Some (x, c.in_ok-x.behind)) c.in_ok-x.ensures), k, t) (sym (ahead_one (take n xs) x (items? (most - (n + 1)) item? us)));
+      tail = λ leaves. tail_tail (c.args.s.now) (loop.rest.now) (c.in_ok-x.behind.now) (loop.invariant.tail leaves) (leaves loop.rest (Some (x, c.in_ok-x.behind)) c.in_ok-x.ensures);
     }
 
 -- all places are full, and more items stand behind them
@@ -45,14 +47,14 @@ pub returns-in_err-behind-clause-filled : goal.returns-in_err-behind-clause-fill
 returns-in_err-behind-clause-filled g c =
     let loop = c.loop-n in
     let ts = tokens loop.rest.now in
-    let more : close? ts ≡ none = c.in_err-behind.ensures in
+    let more : close? ts ≡ none = c.in_err-behind.ensures.read in
     let full : length c.args.places.now - loop.n ≡ 0 = elim c.loop-n-test.branch [ then-loop-n-test+else-is_none w ↦ absurd (search rules) | else-loop-n-test w ↦ omega arith ] in
     λ item? reads. rw (c.from_residual-in_err-behind.ensures, loop.invariant.read item? reads, full, items_full item? ts more)
 
 pub returns-then-n-eq0-clause-filled : goal.returns-then-n-eq0-clause-filled
 returns-then-n-eq0-clause-filled g c =
     let loop = c.loop-n in
-    λ item? reads. rw (loop.invariant.read item? reads, items_closed item? (length c.args.places.now - loop.n) (tokens loop.rest.now) (tokens c.in_ok-behind.behind.now) c.in_ok-behind.ensures, c.if-n-eq0.true)
+    λ item? reads. rw (loop.invariant.read item? reads, items_closed item? (length c.args.places.now - loop.n) (tokens loop.rest.now) (tokens c.in_ok-behind.behind.now) c.in_ok-behind.ensures.read, c.if-n-eq0.true)
 
 pub returns : goal.returns
 returns g c =
@@ -64,5 +66,6 @@ returns g c =
       count = omega arith;
       filled =
           λ item? reads.
-          (rw (loop.invariant.read item? reads, items_closed item? (length c.args.places.now - loop.n) (tokens loop.rest.now) us c.in_ok-behind.ensures, append-nil xs) (some_more xs us (omega arith)), loop.invariant.left);
+          (rw (loop.invariant.read item? reads, items_closed item? (length c.args.places.now - loop.n) (tokens loop.rest.now) us c.in_ok-behind.ensures.read, append-nil xs) (some_more xs us (omega arith)), loop.invariant.left);
+      tail = λ leaves. tail_tail (c.args.s.now) (loop.rest.now) (c.in_ok-behind.behind.now) (loop.invariant.tail leaves) c.in_ok-behind.ensures.tail;
     }

@@ -1,8 +1,9 @@
 -- `several`: the last items of a form, and its closing bracket.
 use Rattle.std.proofs.Common.{length, ◌≤◌, ◌-◌, ◌≡◌, List, take, drop}
 use Rattle.text.specs.Token.{Token, tokens}
+use Rattle.text.specs.Front.{TailOf}
 use Rattle.items.specs.Grammar.{Parsed, items?}
-use Rattle.items.specs.Reads.{ReadsBy}
+use Rattle.items.specs.Reads.{ReadsBy, LeavesTail}
 use Rattle.items.proofs.Walks.{ahead}
 use Rattle.items.proofs.several.Given as goal
 
@@ -14,6 +15,7 @@ invariant-loop-n g l =
       left : drop l.n l.places ≡ drop l.n l.initial.places;
       read : (item? : List Token → Parsed g.row.T.Denot) → ReadsBy (goal.F-post g l.item) item? →
           items? (length l.initial.places) item? (tokens l.fn.s) ≡ ahead (take l.n l.places) (items? (length l.initial.places - l.n) item? (tokens l.rest));
+      tail : LeavesTail (goal.F-post g l.item) → TailOf l.rest l.fn.s;
     }
 
 abbrev pub decreases-loop-n : goal.decreases-loop-n
