@@ -1,8 +1,9 @@
 // Cells and parts of a hold's form, at the front of what is left of a line.
 #![tactic(auto)]
 
-ghost use Rattle.std.specs.Prelude.{◌≡◌};
+ghost use Rattle.std.specs.Prelude.{◌≡◌, IfSome};
 ghost use Rattle.text.specs.Token.{tokens};
+ghost use Rattle.text.specs.Front.{TailOf};
 ghost use Rattle.items.specs.Carried.{carry};
 ghost use Rattle.items.specs.Reads.{read_of};
 ghost use Rattle.parts.specs.Shape.{cell_named, cell?, part_named, section?, slack?, split?, body?, part?};
@@ -46,7 +47,8 @@ fn cell_named(word: &[u8]) -> Option<CellWord>
 // A cell, by its word.
 #[tactic(auto, using(crate::proofs::Records::cell_read))]
 fn cell(s: &[u8]) -> Read<'_, Cell>
-    ensures { carry carried_cell (cell? (tokens s.now)) ≡ read_of result }
+    ensures read { carry carried_cell (cell? (tokens s.now)) ≡ read_of result }
+    ensures tail { IfSome result (λ r. TailOf r.1.now s.now) }
 {
     let (word, rest) = items::head(s)?;
     match cell_named(word)? {
@@ -94,7 +96,8 @@ fn part_named(word: &[u8]) -> Option<PartWord>
 
 // `LENGTH CELL ..)`. The filler of a part has eight fillers of a cell.
 fn section(s: &[u8]) -> Read<'_, Part>
-    ensures { carry carried_part (section? (tokens s.now)) ≡ read_of result }
+    ensures read { carry carried_part (section? (tokens s.now)) ≡ read_of result }
+    ensures tail { IfSome result (λ r. TailOf r.1.now s.now) }
 {
     let (length, rest) = items::size(s)?;
     let mut part = record::no_part();
@@ -107,7 +110,8 @@ fn section(s: &[u8]) -> Read<'_, Part>
 // `LENGTH BREADTH VOID GRAIN)`
 #[tactic(auto, unfolding(record::specs::Filler::padded), using(crate::proofs::Records::slack_read))]
 fn slack(s: &[u8]) -> Read<'_, Part>
-    ensures { carry carried_part (slack? (tokens s.now)) ≡ read_of result }
+    ensures read { carry carried_part (slack? (tokens s.now)) ≡ read_of result }
+    ensures tail { IfSome result (λ r. TailOf r.1.now s.now) }
 {
     let ([length, breadth, void, grain], rest) = items::last_sizes::<4>(s)?;
     let part = Part {
@@ -125,7 +129,8 @@ fn slack(s: &[u8]) -> Read<'_, Part>
 // `LENGTH RUN LEFT RIGHT)`
 #[tactic(auto, unfolding(record::specs::Filler::padded), using(crate::proofs::Records::split_read))]
 fn split(s: &[u8]) -> Read<'_, Part>
-    ensures { carry carried_part (split? (tokens s.now)) ≡ read_of result }
+    ensures read { carry carried_part (split? (tokens s.now)) ≡ read_of result }
+    ensures tail { IfSome result (λ r. TailOf r.1.now s.now) }
 {
     let ([length, run, left, right], rest) = items::last_sizes::<4>(s)?;
     let part = Part {
@@ -138,7 +143,8 @@ fn split(s: &[u8]) -> Read<'_, Part>
 
 // What stands behind a part's word goes by the mode; among cells there is no board.
 fn body(mode: Mode, word: PartWord, s: &[u8]) -> Read<'_, Part>
-    ensures { carry carried_part (body? mode word (tokens s.now)) ≡ read_of result }
+    ensures read { carry carried_part (body? mode word (tokens s.now)) ≡ read_of result }
+    ensures tail { IfSome result (λ r. TailOf r.1.now s.now) }
 {
     match (mode, word) {
         (Mode::Trimmed | Mode::Voided, PartWord::PlainWord) => section(s),
@@ -150,7 +156,8 @@ fn body(mode: Mode, word: PartWord, s: &[u8]) -> Read<'_, Part>
 
 // A part of a hold of this mode, by its word.
 pub fn part(mode: Mode, s: &[u8]) -> Read<'_, Part>
-    ensures { carry carried_part (part? mode (tokens s.now)) ≡ read_of result }
+    ensures read { carry carried_part (part? mode (tokens s.now)) ≡ read_of result }
+    ensures tail { IfSome result (λ r. TailOf r.1.now s.now) }
 {
     let (word, rest) = items::head(s)?;
     body(mode, part_named(word)?, rest)

@@ -1,17 +1,11 @@
 -- What is left behind some bytes of a text is a tail of it.
-use mathlib.Core.Path.{◌≡◌, refl, sym, ap, ◌∙◌}
-use mathlib.Core.Bool.{not}
-use mathlib.Core.List.{List, ◌∷◌, ◌++◌}
+use mathlib.Core.Path.{◌≡◌, refl, ap, ◌∙◌}
+use mathlib.Core.List.{List, ◌∷◌}
 use Prim.Native.Nat.{ℕ, ◌+◌, ◌-◌, ◌≤◌}
 use native.Mathlib.Omega.{arith}
-use lib.ListN.{length, drop, length-drop, length-append, take-append-drop}
-use lib.Seq.{drop-drop, drop-append_seam}
-use Rattle.std.specs.Prelude.{Some}
-use Rattle.std.specs.Borrow.{Bor}
-use Rattle.std.proofs.lemmas.List.Sums.{prefix_len-le-length}
-use Rattle.text.specs.declared.Piece.TheVariants.{Run}
-use Rattle.text.specs.Token.{run_length}
-use Rattle.text.specs.Front.{TailOf, starts_token, gap, PlacedAt}
+use lib.ListN.{length, drop, length-drop}
+use lib.Seq.{drop-drop}
+use Rattle.text.specs.Front.{TailOf}
 
 drop_tail : (n : ℕ) (s : List ℕ) → n ≤ length s → TailOf (drop n s) s
 drop_tail n s p =
@@ -37,14 +31,3 @@ tail_fits r s e = omega (arith, ap length e, length-drop (length s - length r) s
 -- a tail of a tail is a tail
 pub tail_tail : (s t u : List ℕ) → TailOf t s → TailOf u t → TailOf u s
 tail_tail s t u e f = left_tail s t (tail_fits t s e) e (length t - length u) u (omega arith) f
-
--- and so is what stands in it behind some bytes
-pub tail_behind : (s w u : List ℕ) → TailOf (w ++ u) s → TailOf u s
-tail_behind s w u e = left_tail s (w ++ u) (tail_fits (w ++ u) s e) e (length w) u (omega (arith, length-append w u)) (sym (drop-append_seam w u))
-
--- where a run is the first piece, it stands just in front of what is left, and both together are a tail
-pub run_tail : (s : List ℕ) (r rest : Bor (List ℕ)) → PlacedAt s (Some (Run r, rest)) → TailOf (r.now ++ rest.now) s
-run_tail s r rest e =
-    let t = drop (gap s) s in
-    let whole : r.now ++ rest.now ≡ t = rw (e.0, e.1) (take-append-drop (run_length t) t) in
-    rw whole (drop_tail (gap s) s (prefix_len-le-length (λ b. not (starts_token b)) s))
