@@ -1,8 +1,9 @@
 // The shapes of document 01's forms, each with its record.
 #![tactic(auto)]
 
-ghost use Rattle.std.specs.Prelude.{◌≡◌};
+ghost use Rattle.std.specs.Prelude.{◌≡◌, IfSome};
 ghost use Rattle.text.specs.Token.{tokens};
+ghost use Rattle.text.specs.Front.{TailOf};
 ghost use Rattle.items.specs.Carried.{carry};
 ghost use Rattle.forms.specs.Shape.{rule_named, rule_of, ship?, column?, load?, mode_named, parts?, hold?, drop?, form_word, form_by};
 ghost use Rattle.forms.specs.Carried.{carried_request};
@@ -70,7 +71,8 @@ fn rule_of(word: RuleWord, edge: u16) -> Rule
 
 // `RULE EDGE FLOOD)`
 fn ship<'a>(s: &'a [u8], request: &mut Request) -> Option<&'a [u8]>
-    ensures { carry carried_request (ship? (tokens s.now)) ≡ read_into request.new result }
+    ensures read { carry carried_request (ship? (tokens s.now)) ≡ read_into request.new result }
+    ensures tail { IfSome result (λ r. TailOf r.now s.now) }
 {
     let (word, rest) = items::run(s)?;
     let word = rule_named(word)?;
@@ -85,7 +87,8 @@ fn ship<'a>(s: &'a [u8], request: &mut Request) -> Option<&'a [u8]>
 
 // `D KG FS)`
 fn load<'a>(s: &'a [u8], request: &mut Request) -> Option<&'a [u8]>
-    ensures { carry carried_request (load? (tokens s.now)) ≡ read_into request.new result }
+    ensures read { carry carried_request (load? (tokens s.now)) ≡ read_into request.new result }
+    ensures tail { IfSome result (λ r. TailOf r.now s.now) }
 {
     let (d, rest) = items::number(s)?;
     let ([kg, fs], rest) = items::last_sizes::<2>(rest)?;
@@ -96,7 +99,8 @@ fn load<'a>(s: &'a [u8], request: &mut Request) -> Option<&'a [u8]>
 // `N)`
 #[tactic(auto, unfolding(crate::specs::Carried::carried_request))]
 fn drop<'a>(s: &'a [u8], request: &mut Request) -> Option<&'a [u8]>
-    ensures { carry carried_request (drop? (tokens s.now)) ≡ read_into request.new result }
+    ensures read { carry carried_request (drop? (tokens s.now)) ≡ read_into request.new result }
+    ensures tail { IfSome result (λ r. TailOf r.now s.now) }
 {
     let (n, rest) = items::number(s)?;
     let rest = items::close(rest)?;
@@ -105,9 +109,10 @@ fn drop<'a>(s: &'a [u8], request: &mut Request) -> Option<&'a [u8]>
 }
 
 // `D KM (K .. K))`
-#[tactic(auto, unfolding(crate::specs::Carried::carried_request))]
+#[tactic(auto, using(text::proofs::Tails::tail_tail), unfolding(crate::specs::Carried::carried_request))]
 fn column<'a>(s: &'a [u8], request: &mut Request) -> Option<&'a [u8]>
-    ensures { carry carried_request (column? (tokens s.now)) ≡ read_into request.new result }
+    ensures read { carry carried_request (column? (tokens s.now)) ≡ read_into request.new result }
+    ensures tail { IfSome result (λ r. TailOf r.now s.now) }
 {
     let (d, rest) = items::number(s)?;
     let (km, rest) = items::size(rest)?;
@@ -122,7 +127,8 @@ fn column<'a>(s: &'a [u8], request: &mut Request) -> Option<&'a [u8]>
 
 // `SF PART ..)`. `as` keeps a count of at most six: of `try_from` the error that cannot be would have to be answered, as of cells.
 fn parts<'a>(n: u32, mode: Mode, s: &'a [u8], request: &mut Request) -> Option<&'a [u8]>
-    ensures { carry carried_request (parts? n mode (tokens s.now)) ≡ read_into request.new result }
+    ensures read { carry carried_request (parts? n mode (tokens s.now)) ≡ read_into request.new result }
+    ensures tail { IfSome result (λ r. TailOf r.now s.now) }
 {
     let (factor, rest) = items::size(s)?;
     let mut hold = record::no_hold();
@@ -152,7 +158,8 @@ fn mode_named(word: &[u8]) -> Option<Mode>
 
 // `N MODE SF PART ..)`
 fn hold<'a>(s: &'a [u8], request: &mut Request) -> Option<&'a [u8]>
-    ensures { carry carried_request (hold? (tokens s.now)) ≡ read_into request.new result }
+    ensures read { carry carried_request (hold? (tokens s.now)) ≡ read_into request.new result }
+    ensures tail { IfSome result (λ r. TailOf r.now s.now) }
 {
     let (n, rest) = items::number(s)?;
     let (word, rest) = items::run(rest)?;
@@ -183,7 +190,8 @@ pub fn form_word(word: &[u8]) -> Option<FormWord>
 // What stands behind a form's word.
 #[tactic(auto, using(crate::proofs::Records::bare_read), unfolding(crate::specs::Carried::carried_request))]
 pub fn form_by<'a>(word: FormWord, s: &'a [u8], request: &mut Request) -> Option<&'a [u8]>
-    ensures { carry carried_request (form_by word (tokens s.now)) ≡ read_into request.new result }
+    ensures read { carry carried_request (form_by word (tokens s.now)) ≡ read_into request.new result }
+    ensures tail { IfSome result (λ r. TailOf r.now s.now) }
 {
     match word {
         FormWord::ShipWord => ship(s, request),
