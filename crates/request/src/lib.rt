@@ -1,8 +1,9 @@
 // The shapes of lines: which form a line is or shows, and its record (code 14).
 #![tactic(auto)]
 
-ghost use Rattle.std.specs.Prelude.{◌≡◌, Some, None, cond, option_map};
+ghost use Rattle.std.specs.Prelude.{◌≡◌, IfSome, Some, None, cond, option_map};
 ghost use Rattle.text.specs.Token.{tokens};
+ghost use Rattle.text.specs.Front.{TailOf};
 ghost use Rattle.items.specs.Carried.{carry};
 ghost use Rattle.forms.specs.Carried.{carried_request};
 ghost use Rattle.forms.specs.Reads.{read_into};
@@ -23,7 +24,8 @@ pub enum LineWord {
 
 // `FORM)`. The form's record is not kept.
 fn show<'a>(s: &'a [u8], request: &mut Request) -> Option<&'a [u8]>
-    ensures { carry carried_request (show? (tokens s.now)) ≡ read_into request.new result }
+    ensures read { carry carried_request (show? (tokens s.now)) ≡ read_into request.new result }
+    ensures tail { IfSome result (λ r. TailOf r.now s.now) }
 {
     let (word, behind) = items::head(s)?;
     let form = forms::form_word(word)?;
@@ -34,7 +36,8 @@ fn show<'a>(s: &'a [u8], request: &mut Request) -> Option<&'a [u8]>
 
 // `T H)`
 fn weight<'a>(s: &'a [u8], request: &mut Request) -> Option<&'a [u8]>
-    ensures { carry carried_request (weight? (tokens s.now)) ≡ read_into request.new result }
+    ensures read { carry carried_request (weight? (tokens s.now)) ≡ read_into request.new result }
+    ensures tail { IfSome result (λ r. TailOf r.now s.now) }
 {
     let (tonnes, rest) = items::number(s)?;
     let ([height], rest) = items::last_sizes::<1>(rest)?;
@@ -45,7 +48,8 @@ fn weight<'a>(s: &'a [u8], request: &mut Request) -> Option<&'a [u8]>
 
 // `FS)`
 fn weighed<'a>(s: &'a [u8], request: &mut Request) -> Option<&'a [u8]>
-    ensures { carry carried_request (weighed? (tokens s.now)) ≡ read_into request.new result }
+    ensures read { carry carried_request (weighed? (tokens s.now)) ≡ read_into request.new result }
+    ensures tail { IfSome result (λ r. TailOf r.now s.now) }
 {
     let ([fs], rest) = items::last_sizes::<1>(s)?;
     *request = Request::WeighingLine(Weighing::Weighed(fs));
@@ -70,7 +74,8 @@ fn line_word(word: &[u8]) -> Option<LineWord>
 // What stands behind a line's word.
 #[tactic(auto, using(forms::proofs::Records::bare_read), unfolding(forms::specs::Carried::carried_request))]
 fn line_by<'a>(word: LineWord, s: &'a [u8], request: &mut Request) -> Option<&'a [u8]>
-    ensures { carry carried_request (line_by word (tokens s.now)) ≡ read_into request.new result }
+    ensures read { carry carried_request (line_by word (tokens s.now)) ≡ read_into request.new result }
+    ensures tail { IfSome result (λ r. TailOf r.now s.now) }
 {
     match word {
         LineWord::OfForm(form) => forms::form_by(form, s, request),
@@ -89,7 +94,8 @@ fn line_by<'a>(word: LineWord, s: &'a [u8], request: &mut Request) -> Option<&'a
 
 // A line: a show of a form, or by its word.
 fn read_line<'a>(s: &'a [u8], request: &mut Request) -> Option<&'a [u8]>
-    ensures { carry carried_request (line? (tokens s.now)) ≡ read_into request.new result }
+    ensures read { carry carried_request (line? (tokens s.now)) ≡ read_into request.new result }
+    ensures tail { IfSome result (λ r. TailOf r.now s.now) }
 {
     let (word, rest) = items::head(s)?;
     if word == b"show".as_slice() {

@@ -7,19 +7,19 @@ use Rattle.items.proofs.Words.{is_as}
 use Rattle.request.specs.Shape.{line_word}
 use Rattle.request.proofs.read_line.Goals as goal
 
-pub returns-then-eq : goal.returns-then-eq
-returns-then-eq c =
+pub returns-then-eq-clause-read : goal.returns-then-eq-clause-read
+returns-then-eq-clause-read c =
     let r = c.in_ok-word in
-    rw (r.ensures, is_as "show" r.word.now c.as_slice.result.now c.as_slice.ensures true c.if-eq.ensures) c.show.ensures
+    rw (r.ensures.read, is_as "show" r.word.now c.as_slice.result.now c.as_slice.ensures true c.if-eq.ensures) c.show.ensures.read
 
-pub returns-in_err-line_word : goal.returns-in_err-line_word
-returns-in_err-line_word c =
+pub returns-in_err-line_word-clause-read : goal.returns-in_err-line_word-clause-read
+returns-in_err-line_word-clause-read c =
     let r = c.in_ok-word in
     let n : line_word r.word.now ≡ None = sym c.line_word.ensures ∙ c.in_err-line_word.was in
-    rw (r.ensures, is_as "show" r.word.now c.as_slice.result.now c.as_slice.ensures false c.if-eq.ensures, n, c.from_residual-in_err-line_word.ensures)
+    rw (r.ensures.read, is_as "show" r.word.now c.as_slice.result.now c.as_slice.ensures false c.if-eq.ensures, n, c.from_residual-in_err-line_word.ensures)
 
-pub returns : goal.returns
-returns c =
+pub returns-clause-read : goal.returns-clause-read
+returns-clause-read c =
     let r = c.in_ok-word in
     let n : line_word r.word.now ≡ Some c.in_ok-line_word.field-0 = sym c.line_word.ensures ∙ c.in_ok-line_word.was in
-    rw (r.ensures, is_as "show" r.word.now c.as_slice.result.now c.as_slice.ensures false c.if-eq.ensures, n) c.line_by.ensures
+    rw (r.ensures.read, is_as "show" r.word.now c.as_slice.result.now c.as_slice.ensures false c.if-eq.ensures, n) c.line_by.ensures.read

@@ -12,7 +12,7 @@ use Rattle.request.proofs.request_of.Goals as goal
 
 pub returns-in_default : goal.returns-in_default
 unfolding request_of
-returns-in_default c = rw (carries_none carried_request (line? (tokens c.args.line.now)) c.in_default.ensures)
+returns-in_default c = rw (carries_none carried_request (line? (tokens c.args.line.now)) c.in_default.ensures.read)
 
 -- what was read, by whether it is the whole line
 whole_if_end : (a b : Request) (us : List Token) → b ≡ carried_request a → (x : Bool) → is_end us ≡ x → cond x (Some b) None ≡ option_map carried_request (whole? (got a us))
@@ -23,5 +23,5 @@ pub returns : goal.returns
 unfolding request_of
 returns c =
     let us = tokens c.in-Some.rest.now in
-    let i = carries carried_request (line? (tokens c.args.line.now)) c.read_line.new.request us c.in-Some.ensures in
+    let i = carries carried_request (line? (tokens c.args.line.now)) c.read_line.new.request us c.in-Some.ensures.read in
     rw (i.is, c.is_end.ensures) (whole_if_end i.read _ us i.kept (is_end us) refl)

@@ -10,9 +10,9 @@ use Rattle.forms.specs.declared.Request.TheVariants.{WeighingLine}
 use Rattle.forms.specs.Carried.{carried_request}
 use Rattle.request.proofs.weighed.Goals as goal
 
-pub returns : goal.returns
+pub returns-clause-read : goal.returns-clause-read
 unfolding carried_request
-returns c =
+returns-clause-read c =
     let r = c.in_ok-fs in
-    built carried_request (λ x. WeighingLine (Weighed (nth x 0))) (map carried) (last_numbers? 1 (tokens c.args.s.now)) r.field-0-0 (tokens r.rest.now) _ r.ensures
+    built carried_request (λ x. WeighingLine (Weighed (nth x 0))) (map carried) (last_numbers? 1 (tokens c.args.s.now)) r.field-0-0 (tokens r.rest.now) _ r.ensures.read
     (λ x e. rw (nth_kept r.field-0-0 x 0 e) refl)
