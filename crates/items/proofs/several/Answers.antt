@@ -39,7 +39,7 @@ loop-n-preserved g c =
       read = λ item? reads.
           loop.invariant.read item? reads
           ∙ rw (items_next item? (most - n) ts more x us (omega arith) (reads loop.rest (Some (x, c.in_ok-x.behind)) c.in_ok-x.ensures), k, t) (sym (ahead_one (take n xs) x (items? (most - (n + 1)) item? us)));
-      tail = λ leaves. tail_tail (c.args.s.now) (loop.rest.now) (c.in_ok-x.behind.now) (loop.invariant.tail leaves) (leaves loop.rest (Some (x, c.in_ok-x.behind)) c.in_ok-x.ensures);
+      tail = λ leaves. tail_tail c.args.s.now loop.rest.now c.in_ok-x.behind.now (loop.invariant.tail leaves) (leaves loop.rest (Some (x, c.in_ok-x.behind)) c.in_ok-x.ensures);
     }
 
 -- all places are full, and more items stand behind them
@@ -56,16 +56,15 @@ returns-then-n-eq0-clause-filled g c =
     let loop = c.loop-n in
     λ item? reads. rw (loop.invariant.read item? reads, items_closed item? (length c.args.places.now - loop.n) (tokens loop.rest.now) (tokens c.in_ok-behind.behind.now) c.in_ok-behind.ensures.read, c.if-n-eq0.true)
 
-pub returns : goal.returns
-returns g c =
+pub returns-clause-tail : goal.returns-clause-tail
+returns-clause-tail g c =
+    λ leaves. tail_tail c.args.s.now c.loop-n.rest.now c.in_ok-behind.behind.now (c.loop-n.invariant.tail leaves) c.in_ok-behind.ensures.tail
+
+pub returns-clause-filled : goal.returns-clause-filled
+returns-clause-filled g c =
     let loop = c.loop-n in
     let us = tokens c.in_ok-behind.behind.now in
     let xs = take loop.n loop.places in
     let l : length xs ≡ loop.n = length-take-le loop.n loop.places (omega arith) in
-    record {
-      count = omega arith;
-      filled =
-          λ item? reads.
-          (rw (loop.invariant.read item? reads, items_closed item? (length c.args.places.now - loop.n) (tokens loop.rest.now) us c.in_ok-behind.ensures.read, append-nil xs) (some_more xs us (omega arith)), loop.invariant.left);
-      tail = λ leaves. tail_tail (c.args.s.now) (loop.rest.now) (c.in_ok-behind.behind.now) (loop.invariant.tail leaves) c.in_ok-behind.ensures.tail;
-    }
+    λ item? reads.
+    (rw (loop.invariant.read item? reads, items_closed item? (length c.args.places.now - loop.n) (tokens loop.rest.now) us c.in_ok-behind.ensures.read, append-nil xs) (some_more xs us (omega arith)), loop.invariant.left)

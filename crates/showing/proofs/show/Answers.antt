@@ -8,26 +8,26 @@ use Rattle.showing.proofs.Writing.{has_word, part_spelled, part_long, part_fits_
 use Rattle.showing.proofs.show.Goals as goal
 
 pub unreachable-requires : goal.unreachable-requires
-unreachable-requires c = has_word c.args.line.now c.requires.is_show (rw c.in_default.is at c.head.ensures)
+unreachable-requires c = has_word c.args.line.now c.requires.is_show (rw c.in_default.is at c.head.ensures.read)
 
 pub spell-len-requires : goal.spell-len-requires
 spell-len-requires c =
     let pre = c.requires in
-    let n = rw c.in-Some.is at c.head.ensures in
+    let n = rw c.in-Some.is at c.head.ensures.read in
     let line = c.args.line.now in
     omega (arith, part_fits_lem line pre.is_show _ c.in-Some.rest.now n pre.room.0, pre.room.1)
 
 pub overflow_sub-out : goal.overflow_sub-out
 overflow_sub-out c =
     let pre = c.requires in
-    let n = rw c.in-Some.is at c.head.ensures in
+    let n = rw c.in-Some.is at c.head.ensures.read in
     let line = c.args.line.now in
     omega (arith, part_some line pre.is_show _ c.in-Some.rest.now n, c.spell-len.ensures.value)
 
 pub bounds-out-len : goal.bounds-out-len
 bounds-out-len c =
     let pre = c.requires in
-    let n = rw c.in-Some.is at c.head.ensures in
+    let n = rw c.in-Some.is at c.head.ensures.read in
     let line = c.args.line.now in
     omega (arith, part_some line pre.is_show _ c.in-Some.rest.now n, part_fits_lem line pre.is_show _ c.in-Some.rest.now n pre.room.0, pre.room.1, c.spell-len.ensures.value, c.spell-len.auto.out)
 
@@ -35,7 +35,7 @@ pub returns : goal.returns
 returns c =
     let s = c.spell-len in
     let pre = c.requires in
-    let n = rw c.in-Some.is at c.head.ensures in
+    let n = rw c.in-Some.is at c.head.ensures.read in
     let line = c.args.line.now in
     let out = c.args.out.now in
     let e = part_spelled line pre.is_show _ c.in-Some.rest.now n in
