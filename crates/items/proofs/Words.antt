@@ -1,7 +1,7 @@
 -- Choosing by a word: whether a run is it, and a table of words that is walked.
-use mathlib.Core.Path.{◌≡◌, refl}
-use mathlib.Core.Bool.{Bool, cond}
-use mathlib.Core.List.{List}
+use mathlib.Core.Path.{◌≡◌, refl, sym, ◌∙◌}
+use mathlib.Core.Bool.{Bool, true, false, cond}
+use mathlib.Core.List.{List, [], ◌∷◌}
 use Prim.Native.Nat.{ℕ, ◌+◌, ◌<◌, ◌≤◌}
 use Prim.Native.String.{String}
 use lib.Dec.{eqb}
@@ -13,7 +13,7 @@ use Rattle.whole.proofs.Lists.{drop_next}
 use Rattle.whole.specs.Bytes.{bytes}
 use Rattle.text.proofs.Runs.{same_slices}
 use Rattle.text.specs.Token.{same}
-use Rattle.items.specs.Grammar.{is}
+use Rattle.items.specs.Grammar.{is, named}
 use Rattle.items.specs.Reads.{found}
 
 -- as `==` of two runs tests it
@@ -32,3 +32,18 @@ module _ {A : Type 0} (l : List (Bor (List ℕ) × A)) (r : List ℕ) (i : ℕ) 
   pub found_end : length l ≤ i → found (drop i l) r ≡ None
   unfolding found
   found_end h = rw (drop_of_length-le l {i = i} h)
+
+-- a table of shapes' words: the entry that the run is, one that it is not, and a run that is none of the table
+module _ {A : Type 0} (w : String) (a : A) (table : List (String × A)) (other : A) (r : List ℕ) (tested : Bool) (is_test : tested ≡ is r w) where
+  pub named_here : tested ≡ true → a ≡ named ((w, a) ∷ table) other r
+  unfolding named
+  named_here e = rw (sym is_test ∙ e) refl
+
+  pub named_past : tested ≡ false → (b : A) → b ≡ named table other r → b ≡ named ((w, a) ∷ table) other r
+  unfolding named
+  named_past e b more = more ∙ rw (sym is_test ∙ e) refl
+
+-- the last of the table
+pub named_none : {A : Type 0} (w : String) (a other : A) (r : List ℕ) (tested : Bool) → tested ≡ is r w → tested ≡ false → other ≡ named ((w, a) ∷ []) other r
+unfolding named
+named_none w a other r tested t e = rw (sym t ∙ e) refl
